@@ -1,0 +1,113 @@
+-- The longest lawful beginning of what is left of a list, read from a place on.
+use mathlib.Core.Path.{_≡_, refl, sym, _∙_, ap, subst}
+use mathlib.Core.Bool.{Bool, true, false}
+use mathlib.Core.List.{List, [], _∷_}
+use mathlib.Core.Logic.{_⊎_, inl, inr}
+use Prim.Native.Nat.{ℕ, zero, suc, _+_, _≤_, _<_}
+use native.Mathlib.Omega.{arith}
+use lib.Dec.{leb}
+use lib.ListN.{length, take, drop, length-drop}
+use Rattle.std.specs.declared.option.Option.{Option}
+use Rattle.std.specs.declared.option.Option.the-variants.{None, Some}
+use Rattle.std.specs.declared.result.Result.{Result}
+use Rattle.std.specs.declared.result.Result.the-variants.{Ok, Err}
+use Rattle.std.specs.shelf.Maps.{nth}
+use Rattle.std.proofs.shelf.Lists.{drop-drop}
+use Rattle.std.proofs.shelf.Tests.{and-parts, leb-true, cases-bool}
+use Rattle.source.specs.declared.reply.Reply.{Reply}
+use Rattle.source.specs.declared.reply.End.{End}
+use Rattle.source.specs.Replies.{Follows, LawfulFrom, Lawful, first, rest, follows, beginning}
+
+module _ {A : Type 0} where
+  pub drop-some : (xs : List A) (k : ℕ) (x : A) → nth xs k ≡ Some x → drop k xs ≡ x ∷ drop (k + 1) xs
+  drop-some [] k x e = let z : _≡_ {A = ℕ} 0 1 = cc in absurd (omega arith)
+  drop-some (y ∷ ys) zero x e = let s : y ≡ x = cc in ap (λ a. a ∷ ys) s
+  drop-some (y ∷ ys) (suc k) x e = let n : suc k + 1 ≡ suc (k + 1) = omega arith in rw n (drop-some ys k x e)
+
+  pub drop-none : (xs : List A) (k : ℕ) → nth xs k ≡ None → drop k xs ≡ []
+  drop-none [] zero e = refl
+  drop-none [] (suc k) e = refl
+  drop-none (y ∷ ys) zero e = let z : _≡_ {A = ℕ} 0 1 = cc in absurd (omega arith)
+  drop-none (y ∷ ys) (suc k) e = drop-none ys k e
+
+  -- a place in the first n items
+  pub nth-take : (xs : List A) (n k : ℕ) → k < n → nth xs k ≡ nth (take n xs) k
+  nth-take [] zero k h = absurd (omega arith)
+  nth-take [] (suc n) k h = refl
+  nth-take (x ∷ xs) zero k h = absurd (omega arith)
+  nth-take (x ∷ xs) (suc n) zero h = refl
+  nth-take (x ∷ xs) (suc n) (suc k) h = nth-take xs n k (omega arith)
+
+  -- a place past them
+  pub nth-past-take : (xs : List A) (n k : ℕ) → n ≤ k → None ≡ nth (take n xs) k
+  nth-past-take [] zero k h = refl
+  nth-past-take [] (suc n) k h = refl
+  nth-past-take (x ∷ xs) zero k h = refl
+  nth-past-take (x ∷ xs) (suc n) zero h = absurd (omega arith)
+  nth-past-take (x ∷ xs) (suc n) (suc k) h = nth-past-take xs n k (omega arith)
+
+module _ {B : Type 0} where
+  pub follows-so : (last : ℕ) (r : Reply B) → follows last r ≡ true → Follows last r
+  follows-so last r e =
+      let p = and-parts (leb last (r .asked)) _ e in
+      let q = and-parts (leb (r .asked) (r .ready)) _ (p .1) in
+      let s = and-parts (leb (r .ready) 1000000000) _ (q .1) in
+      record {
+        rises = leb-true last (r .asked) (p .0);
+        waits = leb-true (r .asked) (r .ready) (q .0);
+        within = leb-true (r .ready) 1000000000 (s .0);
+        known = leb-true (r .«class») 7 (s .1) }
+
+  pub begins : (last : ℕ) (r : Reply B) (rs : List (Reply B)) → follows last r ≡ true → beginning last (r ∷ rs) ≡ r ∷ beginning (r .asked) rs
+  begins last r rs e = rw (e, beginning) refl
+
+  pub stops : (last : ℕ) (r : Reply B) (rs : List (Reply B)) → follows last r ≡ false → beginning last (r ∷ rs) ≡ []
+  stops last r rs e = rw (e, beginning) refl
+
+  pub beginning-lawful : (last : ℕ) (rs : List (Reply B)) → LawfulFrom last (beginning last rs)
+  beginning-lawful last [] = tt
+  beginning-lawful last (r ∷ rs) =
+      elim (cases-bool (follows last r)) [
+          inl e ↦ rw (begins last r rs e) (follows-so last r e, beginning-lawful (r .asked) rs)
+        | inr e ↦ rw (stops last r rs e) tt ]
+
+  -- what stands at the place that is read next
+  module _ (rs : List (Reply B)) (k last : ℕ) (e : End) where
+    pub head-lawful : (r : Reply B) → nth rs k ≡ Some r → follows last r ≡ true → Ok r ≡ first (beginning last (drop k rs)) e
+    head-lawful r at ok = rw (drop-some rs k r at, begins last r (drop (k + 1) rs) ok) refl
+
+    pub head-unlawful : (r : Reply B) → nth rs k ≡ Some r → follows last r ≡ false → Err e ≡ first (beginning last (drop k rs)) e
+    head-unlawful r at bad = rw (drop-some rs k r at, stops last r (drop (k + 1) rs) bad) refl
+
+    pub head-none : nth rs k ≡ None → Err e ≡ first (beginning last (drop k rs)) e
+    head-none at = rw (drop-none rs k at) refl
+
+  pub first-lawful : (rs : List (Reply B)) (last : ℕ) (e : End) (r : Reply B) → Ok r ≡ first (beginning last rs) e
+      → (rs ≡ r ∷ drop 1 rs) × (follows last r ≡ true)
+  first-lawful [] last e r h = let z : _≡_ {A = ℕ} 0 1 = cc in absurd (omega arith)
+  first-lawful (x ∷ rs) last e r h =
+      elim (cases-bool (follows last x)) [
+          inl ok ↦ let s : r ≡ x = ok-same (h ∙ ap (λ l. first l e) (begins last x rs ok)) in (ap (λ a. a ∷ rs) (sym s), rw s ok)
+        | inr bad ↦ absurd (never (h ∙ ap (λ l. first l e) (stops last x rs bad))) ]
+    where
+      ok-same : {a b : Reply B} → _≡_ {A = Result (Reply B) End} (Ok a) (Ok b) → a ≡ b
+      ok-same p = cc
+      never : {a : Reply B} {d : End} → _≡_ {A = Result (Reply B) End} (Ok a) (Err d) → ⊥
+      never p = let z : _≡_ {A = ℕ} 0 1 = cc in omega arith
+
+  -- a reply that was read: its place is inside the list, and what is left begins after it
+  pub taken-next : (rs : List (Reply B)) (k last : ℕ) (e : End) (r : Reply B) → Ok r ≡ first (beginning last (drop k rs)) e
+      → (k < length rs) × (beginning (r .asked) (drop (k + 1) rs) ≡ rest (beginning last (drop k rs)))
+  taken-next rs k last e r h =
+      let p = first-lawful (drop k rs) last e r h in
+      let n : length (drop k rs) ≡ length (r ∷ drop 1 (drop k rs)) = ap length (p .0) in
+      let d : drop 1 (drop k rs) ≡ drop (k + 1) rs = drop-drop 1 k rs in
+      (omega (arith, simp length-drop at n), tail (p .0 ∙ ap (λ t. r ∷ t) d) (p .1))
+    where
+      tail : drop k rs ≡ r ∷ drop (k + 1) rs → follows last r ≡ true → beginning (r .asked) (drop (k + 1) rs) ≡ rest (beginning last (drop k rs))
+      tail s ok = rw (s, begins last r (drop (k + 1) rs) ok) refl
+
+  -- a list that may follow some reply may stand alone
+  pub lawful-alone : (last : ℕ) (rs : List (Reply B)) → LawfulFrom last rs → Lawful rs
+  lawful-alone last [] l = tt
+  lawful-alone last (r ∷ rs) l = (record { rises = omega arith; waits = l .0 .waits; within = l .0 .within; known = l .0 .known }, l .1)
