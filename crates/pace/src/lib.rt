@@ -4,7 +4,9 @@ ghost use Prim.Native.Nat.{ℕ};
 ghost use Rattle.pace.specs.Laws.{PaceLaws, PenaltyLaw, quantumAnswer, waitAnswer};
 use fault::UnknownClass;
 
+mod doubled;
 pub mod fault;
+mod ladder;
 pub mod rules;
 pub mod steps;
 

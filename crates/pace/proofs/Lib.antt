@@ -1,0 +1,5 @@
+pub mod Doublings
+pub mod Ladders
+pub mod Waits
+pub mod Additions
+pub mod Classes
