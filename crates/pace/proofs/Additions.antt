@@ -10,10 +10,10 @@ use lib.ListN.{length, getD, set, take}
 use Rattle.std.specs.declared.result.Result.{Result}
 use Rattle.std.specs.declared.result.Result.the-variants.{Ok, Err}
 use Rattle.std.proofs.shelf.Lists.{getD-set-same, getD-set-other, take-more-set}
-use Rattle.std.proofs.shelf.Tests.{cases-lt, and-parts, leb-true, ltb-true, lt-leb, le-leb}
+use Rattle.std.proofs.shelf.Tests.{cases-lt, and-parts, leb-true, ltb-true, le-leb}
 use Rattle.std.proofs.shelf.Ways.{tells}
 use Rattle.pace.specs.declared.fault.StepFault.{StepFault}
-use Rattle.pace.specs.declared.fault.StepFault.the-variants.{Range, Order}
+use Rattle.pace.specs.declared.fault.StepFault.the-variants.{Order}
 use Rattle.pace.specs.declared.ladder.ClassSteps.{ClassSteps}
 use Rattle.pace.specs.Steps.{doubled, ladderOf, stepAnswer, inRange, inOrder}
 use Rattle.pace.proofs.Ladders.{ladder-length, ladder-at}
@@ -27,9 +27,6 @@ answer-later [] e wait h = absurd (omega arith)
 answer-later (p ∷ ps) e wait h = refl
 
 module _ (ps : List ℕ) (e wait : ℕ) (some : 0 < length ps) where
-  pub answer-range : 1000000000 < wait → Err Range ≡ stepAnswer ps e wait
-  answer-range h = sym (answer-later ps e wait some ∙ ap (λ b. inRange b (inOrder (orderly ps e wait))) (lt-leb wait 1000000000 h))
-
   pub answer-order : wait ≤ 1000000000 → orderly ps e wait ≡ false → Err Order ≡ stepAnswer ps e wait
   answer-order h o = sym (answer-later ps e wait some ∙ (ap (λ b. inRange b (inOrder (orderly ps e wait))) (le-leb wait 1000000000 h) ∙ ap inOrder o))
 

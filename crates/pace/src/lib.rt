@@ -5,8 +5,10 @@ ghost use Rattle.pace.specs.Laws.{PaceLaws, PenaltyLaw, quantumAnswer, waitAns
 use fault::UnknownClass;
 
 mod doubled;
+pub mod doubling;
 pub mod fault;
 mod ladder;
+mod quantum;
 pub mod rules;
 pub mod steps;
 
