@@ -23,7 +23,10 @@ impl<B> Reply<B> {
     pub fn follows(&self, last: u32) -> bool
         ensures { λ r. ⌜ r ≡ follows last (now (self .entry)) ⌝ }
     {
-        last <= self.asked && self.asked <= self.ready && self.ready <= HORIZON && self.class <= LAST_CLASS
+        last <= self.asked
+            && self.asked <= self.ready
+            && self.ready <= HORIZON
+            && self.class <= LAST_CLASS
     }
 }
 

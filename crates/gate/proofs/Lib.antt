@@ -1,0 +1,4 @@
+pub mod Turns
+pub mod Settling
+pub mod Rows
+pub mod Releases

@@ -1,0 +1,51 @@
+use mathlib.Core.Path.{_≡_, refl, sym, _∙_, ap, subst}
+use Prim.Native.Nat.{ℕ, _≤_, _<_}
+use native.Mathlib.Omega.{arith}
+use Rattle.source.specs.Replies.{horizon}
+use Rattle.gate.specs.Rules.{Rules, Laws, rulesOf}
+use Rattle.gate.specs.Predictions.{predict}
+use Rattle.gate.proofs.Turns.{Onward, onward-first, onward-met, onward-missed, onward-past, wait-some}
+use Rattle.gate.proofs.predict.settle.Needs as need
+
+pub loop-tick-holds : need.loop-tick-holds
+loop-tick-holds g c = (refl, refl, onward-first _ _ _ _ _ _ (c .pre .within))
+
+pub returns-in-rest : need.returns-in-rest
+returns-in-rest g c =
+    let m : Rules = rulesOf (g .P·Pace) (g .R·Penalty) (c .args .pace .now) (c .args .penalty .now) in
+    let n = c .loop-tick .next in
+    onward-past m (c .args .pending .«class») (c .args .pending .ready) (c .args .pending .base) (c .args .pending .own) (c .args .pending .all)
+    (c .loop-tick .misses) (n .base) (n .own) (n .all) (c .loop-tick .inv .2)
+    (subst (λ k. horizon < predict m k (n .base) (n .own) (n .all)) (c .loop-tick .inv .0) (c .in-rest .ensures tt))
+
+pub returns-then-next-tick : need.returns-then-next-tick
+returns-then-next-tick g c =
+    let m : Rules = rulesOf (g .P·Pace) (g .R·Penalty) (c .args .pace .now) (c .args .penalty .now) in
+    let n = c .loop-tick .next in
+    let is : c .in-Some .tick ≡ predict m (c .args .pending .«class») (n .base) (n .own) (n .all)
+    = c .in-Some .ensures tt .0 ∙ ap (λ k. predict m k (n .base) (n .own) (n .all)) (c .loop-tick .inv .0) in
+    onward-met m (c .args .pending .«class») (c .args .pending .ready) (c .args .pending .base) (c .args .pending .own) (c .args .pending .all)
+    (c .loop-tick .misses) (n .base) (n .own) (n .all) (c .in-Some .tick) (c .loop-tick .inv .2) is
+    (omega (arith, c .loop-tick .inv .1, c .if-next-tick .taken)) (omega (arith, c .in-Some .ensures tt))
+
+pub loop-tick-less : need.loop-tick-less
+loop-tick-less g c =
+    let m : Rules = rulesOf (g .P·Pace) (g .R·Penalty) (c .args .pace .now) (c .args .penalty .now) in
+    let laws : Laws m = record { pace = g .P·Pace·met .lawful (c .args .pace .now); penalty = g .R·Penalty·met .lawful (c .args .penalty .now) } in
+    let n = c .loop-tick .next in
+    let some : 1 ≤ m .wait (n .«class») (m .epoch (n .own) (n .all)) = wait-some m laws (n .«class») _ (omega (arith, c .loop-tick .inv .0, c .pre .known)) in
+    omega (arith, some, c .in-Some .ensures tt)
+
+pub loop-tick-again : need.loop-tick-again
+loop-tick-again g c =
+    let m : Rules = rulesOf (g .P·Pace) (g .R·Penalty) (c .args .pace .now) (c .args .penalty .now) in
+    let laws : Laws m = record { pace = g .P·Pace·met .lawful (c .args .pace .now); penalty = g .R·Penalty·met .lawful (c .args .penalty .now) } in
+    let n = c .loop-tick .next in
+    let is : c .in-Some .tick ≡ predict m (c .args .pending .«class») (n .base) (n .own) (n .all)
+    = c .in-Some .ensures tt .0 ∙ ap (λ k. predict m k (n .base) (n .own) (n .all)) (c .loop-tick .inv .0) in (
+      refl,
+      refl,
+      onward-missed m (c .args .pending .«class») (c .args .pending .ready) (c .args .pending .base) (c .args .pending .own) (c .args .pending .all)
+          (c .loop-tick .misses) (n .base) (n .own) (n .all) (c .in-Some .tick) (c .loop-tick .inv .2) is laws (c .pre .known)
+          (omega (arith, c .loop-tick .inv .1, c .if-next-tick .left)) (omega (arith, c .in-Some .ensures tt)),
+    )

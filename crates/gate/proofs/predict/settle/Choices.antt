@@ -1,0 +1,14 @@
+use Prim.Native.Nat.{_-_}
+use mathlib.Core.Path.{_≡_}
+use Rattle.gate.specs.Rules.{rulesOf}
+use Rattle.gate.proofs.Turns.{Onward}
+use Rattle.gate.proofs.predict.settle.Given as given
+
+abbrev pub Inv-loop-tick : given.InvT-loop-tick
+Inv-loop-tick g l =
+    (l .next .«class» ≡ l .pending .«class») × (l .next .ready ≡ l .pending .ready)
+    × Onward (rulesOf (g .P·Pace) (g .R·Penalty) (l .pace) (l .penalty)) (l .pending .«class») (l .pending .ready) (l .pending .base) (l .pending .own) (l .pending .all)
+    (l .misses) (l .next .base) (l .next .own) (l .next .all)
+
+abbrev pub μ-loop-tick : given.MeasureT-loop-tick
+μ-loop-tick g l = 1000000000 - l .next .base

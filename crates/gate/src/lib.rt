@@ -1,0 +1,193 @@
+// A gate: holds each reply of a source and lets it go at a predicted tick.
+ghost use mathlib.Core.Path.{_≡_};
+ghost use Prim.Native.Nat.{_≤_};
+ghost use lib.ListN.{replicate};
+ghost use Rattle.std.specs.declared.result.Result.the-variants.{Err};
+ghost use Rattle.source.specs.Replies.{first};
+ghost use Rattle.source.specs.declared.reply.End.{End};
+ghost use Rattle.gate.specs.Rows.{noRow};
+ghost use Rattle.gate.specs.Views.{viewOf, rulesIn, standingOf, opened, settled, base, released, ending, answer, release, next};
+use ledger::Ledger;
+use opening::Opening;
+use pace::Pace;
+use pace::Penalty;
+use predict::Pending;
+use predict::Settled;
+use predict::settle;
+use row::Row;
+use source::Source;
+use source::reply::End;
+use source::reply::Reply;
+use source::reply::ReplyClone;
+
+pub mod ledger;
+pub mod opening;
+pub mod predict;
+pub mod row;
+
+// A gate over a source, with its pace, its penalty rule and its ledger.
+#[derive(Drop)]
+pub struct Gate<S, P, R> {
+    source: S,
+    pace: P,
+    penalty: R,
+    ledger: Ledger,
+}
+
+// A reply as it is released, its ready tick the release tick, and how many predictions it missed.
+#[derive(Clone, Copy)]
+pub struct Release<B> {
+    pub reply: Reply<B>,
+    pub misses: u32,
+}
+
+// The ledger of a gate that has released nothing yet.
+fn blank(opening: Opening) -> Ledger
+    ensures opening { λ r. ⌜ r .opening ≡ opening .tick ⌝ }
+    ensures clock { λ r. ⌜ r .clock ≡ opening .tick ⌝ }
+    ensures rows { λ r. ⌜ r .rows ≡ replicate 8 noRow ⌝ }
+{
+    let tick = opening.tick();
+    Ledger {
+        opening: tick,
+        clock: tick,
+        all_misses: 0,
+        rows: [Row {
+            misses: 0,
+            releases: 0,
+        }; 8],
+    }
+}
+
+impl<S: Source, P: Pace, R: Penalty> Gate<S, P, R> {
+    // A gate over the source that is opened at a tick.
+    pub fn open(source: S, pace: P, penalty: R, opening: Opening) -> Gate<S, P, R>
+        ensures view { λ g. ⌜ viewOf S·Source g ≡ opened (S·Source .coming source) (S·Source .mark source) (opening .tick) ⌝ }
+        ensures source { λ g. ⌜ g .source ≡ source ⌝ }
+        ensures pace { λ g. ⌜ g .pace ≡ pace ⌝ }
+        ensures penalty { λ g. ⌜ g .penalty ≡ penalty ⌝ }
+    {
+        Gate {
+            source,
+            pace,
+            penalty,
+            ledger: blank(opening),
+        }
+    }
+
+    // The last release tick, or else the opening.
+    pub fn clock(&self) -> u32
+        ensures value { λ r. ⌜ r ≡ viewOf S·Source (now (self .entry)) .standing .clock ⌝ }
+        ensures within { λ r. ⌜ r ≤ 1000000000 ⌝ }
+    {
+        self.ledger.clock
+    }
+
+    // The pace of the gate.
+    pub fn pace(&self) -> &P
+        ensures { λ r. ⌜ now r ≡ now (self .entry) .pace ⌝ }
+    {
+        &self.pace
+    }
+
+    // Where the predictions for a reply asked at a tick begin: the later of that tick and the clock.
+    fn base(&self, asked: u32) -> u32
+        ensures { λ r. ⌜ r ≡ base (viewOf S·Source (now (self .entry)) .standing) asked ⌝ }
+    {
+        asked.max(self.ledger.clock)
+    }
+
+    // The release tick of a reply and its misses, or nothing where a prediction passes the horizon.
+    fn settle(&self, reply: Reply<S::Body>) -> Option<Settled>
+        requires known { ⌜ reply .«class» ≤ 7 ⌝ }
+        requires within { ⌜ reply .asked ≤ 1000000000 ⌝ }
+        ensures { λ r. ⌜ r ≡ settled (rulesIn P·Pace R·Penalty (now (self .entry))) (viewOf S·Source (now (self .entry)) .standing) reply ⌝ }
+    {
+        let pending = Pending {
+            class: reply.class,
+            ready: reply.ready,
+            own: self.ledger.rows[reply.class as usize].misses,
+            all: self.ledger.all_misses,
+            base: self.base(reply.asked),
+        };
+        settle(&self.pace, &self.penalty, pending)
+    }
+
+    // The next reply as it will be released. Charges nothing.
+    pub fn head(&self) -> Result<Reply<S::Body>, End>
+        ensures { λ r. ⌜ r ≡ answer (rulesIn P·Pace R·Penalty (now (self .entry))) (viewOf S·Source (now (self .entry))) ⌝ }
+    {
+        let reply = self.source.head()?;
+        let Some(settled) = self.settle(reply) else {
+            return Err(End::Horizon);
+        };
+        Ok(Reply {
+            asked: reply.asked,
+            class: reply.class,
+            ready: settled.tick,
+            body: reply.body,
+        })
+    }
+
+    // Lets the next reply go: charges its misses, moves the clock, and answers the reply with its misses.
+    // Refused, it leaves the whole gate as it was.
+    pub fn release(&mut self) -> Result<Release<S::Body>, End>
+        ensures value { λ r. ⌜ r ≡ release (rulesIn P·Pace R·Penalty (now (self .entry))) (viewOf S·Source (now (self .entry))) ⌝ }
+        ensures after { λ _. ⌜ viewOf S·Source (now (self .exit)) ≡ next (rulesIn P·Pace R·Penalty (now (self .entry))) (viewOf S·Source (now (self .entry))) ⌝ }
+        ensures same { λ _. ⌜ rulesIn P·Pace R·Penalty (now (self .exit)) ≡ rulesIn P·Pace R·Penalty (now (self .entry)) ⌝ }
+        ensures refused { λ r. ⌜ ((e : End) → r ≡ Err e → now (self .exit) ≡ now (self .entry)) ⌝ }
+    {
+        let reply = self.source.head()?;
+        let Some(settled) = self.settle(reply) else {
+            return Err(End::Horizon);
+        };
+        let _ = self.source.take();
+        let mut rows = self.ledger.rows;
+        rows[reply.class as usize].charge(settled.misses);
+        let all_misses = self.ledger.all_misses + settled.misses;
+        self.ledger = Ledger {
+            opening: self.ledger.opening,
+            clock: settled.tick,
+            all_misses,
+            rows,
+        };
+        let reply = Reply {
+            asked: reply.asked,
+            class: reply.class,
+            ready: settled.tick,
+            body: reply.body,
+        };
+        Ok(Release {
+            reply,
+            misses: settled.misses,
+        })
+    }
+
+    // Lets the next reply go, as `release` does.
+    pub fn take(&mut self) -> Result<Reply<S::Body>, End>
+        ensures value { λ r. ⌜ r ≡ answer (rulesIn P·Pace R·Penalty (now (self .entry))) (viewOf S·Source (now (self .entry))) ⌝ }
+        ensures after { λ _. ⌜ viewOf S·Source (now (self .exit)) ≡ next (rulesIn P·Pace R·Penalty (now (self .entry))) (viewOf S·Source (now (self .entry))) ⌝ }
+        ensures same { λ _. ⌜ rulesIn P·Pace R·Penalty (now (self .exit)) ≡ rulesIn P·Pace R·Penalty (now (self .entry)) ⌝ }
+        ensures refused { λ r. ⌜ ((e : End) → r ≡ Err e → now (self .exit) ≡ now (self .entry)) ⌝ }
+    {
+        let released = self.release()?;
+        Ok(released.reply)
+    }
+}
+
+// A gate is a source: of the replies below with each ready tick replaced by the release tick.
+pub impl<S: Source, P: Pace, R: Penalty> Source for Gate<S, P, R> as GateSource {
+    type Body = S::Body;
+
+    ghost coming = { λ g. released (rulesIn P·Pace R·Penalty g) (standingOf (g .ledger)) (S·Source .coming (g .source)) };
+
+    ghost mark = { λ g. ending (rulesIn P·Pace R·Penalty g) (standingOf (g .ledger)) (S·Source .coming (g .source)) (S·Source .mark (g .source)) };
+
+    fn head(&self) -> Result<Reply<S::Body>, End> {
+        self.head()
+    }
+
+    fn take(&mut self) -> Result<Reply<S::Body>, End> {
+        self.take()
+    }
+}
