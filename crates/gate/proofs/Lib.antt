@@ -2,3 +2,4 @@ pub mod Turns
 pub mod Settling
 pub mod Rows
 pub mod Releases
+pub mod Mosts

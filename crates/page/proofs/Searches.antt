@@ -1,0 +1,82 @@
+-- The searches by doubling: how far they get, and what they have found where they stop.
+use mathlib.Core.Path.{_≡_, refl, sym, _∙_, ap, subst}
+use mathlib.Core.Logic.{_⊎_, inl, inr}
+use Prim.Native.Nat.{ℕ, suc, _+_, _-_, _*_, _^_, _≤_, _<_}
+use native.Mathlib.Omega.{arith}
+use native.Mathlib.Nat.{mul-le-mul, mul-le-mul-right, two-pow-succ}
+use lib.Pow.{pow-mono, pow-pos}
+use Rattle.std.proofs.shelf.Tests.{cases-lt}
+use mathlib.Core.Bool.{Bool}
+use Rattle.gate.specs.Leaks.{Most, share, over}
+use Rattle.gate.proofs.Mosts.{most-last}
+use Rattle.page.specs.Bits.{Enough}
+
+pub power-more : (n : ℕ) → 2 ^ (n + 1) ≡ 2 ^ n + 2 ^ n
+power-more n = let e : n + 1 ≡ suc n = omega arith in ap (λ k. 2 ^ k) e ∙ two-pow-succ n
+
+-- 2^n within the horizon and one: n is at most 29
+pub exponent-few : (n : ℕ) → 2 ^ n ≤ 1000000001 → n ≤ 29
+exponent-few n h =
+    elim (cases-lt n 30) [
+      | inl lt ↦ omega arith
+      | inr ge ↦ (let w : 2 ^ 30 ≤ 2 ^ n = pow-mono ge in absurd (omega (arith, w)))
+    ]
+
+-- where the search for the most misses stands at n
+pub record Fitting (q span n power : ℕ) : Type 0 where
+  pub power-is : power ≡ 2 ^ n
+  pub some : 1 ≤ power
+  pub fits : q * (power - 1) ≤ span
+
+module _ (q span n power : ℕ) (hq : 1 ≤ q) (hs : span ≤ 1000000000) (f : Fitting q span n power) where
+  pub power-few : power ≤ 1000000001
+  power-few = let l : 1 * (power - 1) ≤ q * (power - 1) = mul-le-mul-right (power - 1) hq in omega (arith, f .fits, f .some)
+
+  pub count-few : n ≤ 29
+  count-few = exponent-few n (let p = power-few in omega (arith, f .power-is))
+
+  pub product-fits : q < 4294967296 → q * (2 * power - 1) < 18446744073709551616
+  product-fits small =
+      let p = power-few in
+      let m : q * (2 * power - 1) ≤ 4294967296 * 2000000001 = mul-le-mul (let a : q ≤ 4294967296 = omega arith in a) (let b : 2 * power - 1 ≤ 2000000001 = omega arith in b) in
+      omega (arith, m)
+
+  pub fitting-more : q * (2 * power - 1) ≤ span → Fitting q span (n + 1) (power * 2)
+  fitting-more h =
+      let e : power * 2 - 1 ≡ 2 * power - 1 = omega arith in
+      record {
+        power-is = omega (arith, f .power-is, power-more n);
+        some = omega (arith, f .some);
+        fits = subst (λ x. q * x ≤ span) (sym e) h;
+      }
+
+  pub fitting-most : span < q * (2 * power - 1) → Most q span n
+  fitting-most h =
+      let a : power - 1 ≡ 2 ^ n - 1 = omega (arith, f .power-is) in
+      let b : 2 * power - 1 ≡ 2 ^ suc n - 1 = omega (arith, f .power-is, two-pow-succ n) in
+      most-last q span n (subst (λ x. q * x ≤ span) a (f .fits)) (subst (λ x. span < q * x) b h)
+
+-- where the search for the bits of some rows stands at b: nothing smaller is enough
+pub record Lacking (rows b power : ℕ) : Type 0 where
+  pub power-is : power ≡ 2 ^ b
+  pub least : (i : ℕ) → rows + 1 ≤ 2 ^ i → b ≤ i
+  pub short : power ≤ 2 * rows + 1
+
+module _ (rows b power : ℕ) (f : Lacking rows b power) where
+  pub lacking-more : power < rows + 1 → Lacking rows (b + 1) (power * 2)
+  lacking-more h =
+      record {
+        power-is = omega (arith, f .power-is, power-more b);
+        least = λ i e. elim (cases-lt b i) [ inl lt ↦ omega arith | inr le ↦ (let w : 2 ^ i ≤ 2 ^ b = pow-mono le in absurd (omega (arith, w, f .power-is))) ];
+        short = omega arith;
+      }
+
+  pub lacking-enough : rows + 1 ≤ power → Enough rows b
+  lacking-enough h = record { enough = omega (arith, f .power-is); least = f .least }
+
+  pub bits-few : rows ≤ 50000 → b ≤ 16
+  bits-few small = f .least 16 (omega arith)
+
+-- one class more in a sum over classes
+pub over-more : (n : ℕ) (f : ℕ → ℕ) (occurs : ℕ → Bool) → over (n + 1) f occurs ≡ over n f occurs + share (f n) (occurs n)
+over-more n f occurs = let e : n + 1 ≡ suc n = omega arith in ap (λ k. over k f occurs) e

@@ -1,0 +1,15 @@
+use native.Mathlib.Omega.{arith}
+use Rattle.page.proofs.Searches.{lacking-more, lacking-enough, bits-few}
+use Rattle.page.proofs.leak.row_bits.Needs as need
+
+pub add-b : need.add-b
+add-b c = omega (arith, bits-few _ _ _ (c .loop-power .inv) (c .pre))
+
+pub loop-power-less : need.loop-power-less
+loop-power-less c = omega (arith, bits-few _ _ _ (c .loop-power .inv) (c .pre))
+
+pub loop-power-again : need.loop-power-again
+loop-power-again c = lacking-more _ _ _ (c .loop-power .inv) (c .loop-power-test .taken)
+
+pub returns : need.returns
+returns c = record { enough = lacking-enough _ _ _ (c .loop-power .inv) (c .loop-power-test .left); few = bits-few _ _ _ (c .loop-power .inv) (c .pre) }
