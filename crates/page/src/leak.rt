@@ -3,7 +3,7 @@ ghost use mathlib.Core.Path.{_≡_};
 ghost use Prim.Native.Nat.{ℕ, _+_, _*_, _<_, _≤_};
 ghost use lib.ListN.{length};
 ghost use Rattle.gate.specs.Leaks.{Most, share, mostOf, exponent};
-ghost use Rattle.page.specs.Bits.{Enough, occursIn};
+ghost use Rattle.page.specs.Bits.{rowBits, occursIn, count};
 use pace::Pace;
 
 // The most misses that a class with this quantum can have in so many ticks: the largest n with
@@ -26,7 +26,7 @@ fn most_misses(quantum: u32, span: u32) -> u32
 // The least b with 2^b at least rows + 1.
 pub(crate) fn row_bits(rows: u32) -> u32
     requires { ⌜ rows ≤ 50000 ⌝ }
-    ensures enough { λ b. ⌜ Enough rows b ⌝ }
+    ensures value { λ b. ⌜ b ≡ rowBits rows ⌝ }
     ensures few { λ b. ⌜ b ≤ 16 ⌝ }
 {
     let mut b = 0;
@@ -65,4 +65,18 @@ pub(crate) fn exponent<P: Pace>(quanta: &P, occurs: &[bool; 8], span: u32) -> u3
         e += share(quanta, class, occurs[class as usize], span);
     }
     e
+}
+
+// How many classes are marked.
+pub(crate) fn marked(occurs: &[bool; 8]) -> u32
+    ensures value { λ n. ⌜ n ≡ count (now (occurs .entry)) ⌝ }
+    ensures few { λ n. ⌜ n ≤ 8 ⌝ }
+{
+    let mut n = 0;
+    for mark in occurs {
+        if *mark {
+            n += 1;
+        }
+    }
+    n
 }

@@ -1,2 +1,110 @@
 // Pages: rows of releases, and a foot with what their timing can tell at most.
+ghost use mathlib.Core.Path.{_≡_};
+ghost use Prim.Native.Nat.{_+_, _*_, _<_, _≤_};
+ghost use lib.ListN.{length};
+ghost use Rattle.std.specs.Results.{Cases};
+ghost use Rattle.page.specs.declared.line.PageFault.the-variants.{Room};
+ghost use Rattle.page.specs.Pages.{begun, taken, rowAnswer, rowBytes, footOf, footBytes, RowLeaves, CloseLeaves};
+use gate::opening::Opening;
+use line::Foot;
+use line::LINE;
+use line::PageFault;
+use line::PageRow;
+use pace::Pace;
+use sheet::ClosedPage;
+use sheet::OpenPage;
+use tally::Tally;
+use text::layout::FOOT;
+use text::layout::PAGE_ROW;
+
 pub mod leak;
+pub mod line;
+pub mod sheet;
+pub mod tally;
+
+// A page that could not be closed, and why.
+pub struct RefusedPage {
+    pub fault: PageFault,
+    pub page: OpenPage,
+}
+
+// Begins a page in a buffer, which needs room for a foot at least.
+pub fn begin(buf: &[u8], opening: Opening) -> Result<OpenPage, PageFault>
+    ensures { λ r. ⌜ Cases r (λ p. (36 ≤ length (now (buf .entry))) × (p .tally ≡ begun (opening .tick))) (λ f. (length (now (buf .entry)) < 36) × (f ≡ Room)) ⌝ }
+{
+    if buf.len() < LINE {
+        return Err(PageFault::Room);
+    }
+    let tick = opening.tick();
+    Ok(OpenPage { tally: Tally { opening: tick, rows: 0, clock: tick, misses: 0, occurs: [false; 8] } })
+}
+
+impl OpenPage {
+    // Writes one row more into the part of the buffer that starts at 36 times the rows.
+    // Refused, it leaves the page and the buffer as they were.
+    pub fn row(&mut self, buf: &mut [u8], row: PageRow) -> Result<(), PageFault>
+        ensures value { λ r. ⌜ r ≡ rowAnswer (now (self .entry) .tally) row (length (now (buf .entry))) ⌝ }
+        ensures after { λ r. ⌜ RowLeaves row (now (self .entry) .tally) (now (self .exit) .tally) (now (buf .entry)) (now (buf .exit)) r ⌝ }
+    {
+        let tally = self.tally;
+        tally.judge(row, buf.len())?;
+        let at = LINE * tally.rows as usize;
+        write_row(&mut buf[at..at + LINE], tally.rows + 1, row);
+        self.tally = tally.with(row);
+        Ok(())
+    }
+
+    // Writes the foot, with the quanta of a pace, and closes the page. Refused, it hands the page back.
+    pub fn close<P: Pace>(self, buf: &mut [u8], quanta: &P) -> Result<ClosedPage, RefusedPage>
+        ensures { λ r. ⌜ CloseLeaves (P·Pace .quanta (now (quanta .entry))) self (now (buf .entry)) (now (buf .exit)) r ⌝ }
+    {
+        let at = LINE * self.tally.rows as usize;
+        if buf.len() < at + LINE {
+            return Err(RefusedPage { fault: PageFault::Room, page: self });
+        }
+        let OpenPage { tally } = self;
+        write_foot(&mut buf[at..at + LINE], tally.foot(quanta));
+        Ok(ClosedPage { rows: tally.rows })
+    }
+}
+
+impl ClosedPage {
+    // The bytes of the page with its foot.
+    pub fn length(&self) -> usize
+        ensures { λ r. ⌜ r ≡ 36 * now (self .entry) .rows + 36 ⌝ }
+    {
+        LINE * self.rows as usize + LINE
+    }
+}
+
+// The bytes of a row of a page.
+fn write_row(line: &mut [u8], number: u32, row: PageRow)
+    requires room { ⌜ length (now line) ≡ 36 ⌝ }
+    requires number { ⌜ number ≤ 50000 ⌝ }
+    requires asked { ⌜ row .asked ≤ row .release ⌝ }
+    requires release { ⌜ row .release ≤ 1000000000 ⌝ }
+    requires known { ⌜ row .«class» ≤ 7 ⌝ }
+    requires misses { ⌜ row .misses ≤ 29 ⌝ }
+    ensures { λ _. ⌜ now (line .exit) ≡ rowBytes number row ⌝ }
+{
+    let values = [number as u64, row.asked as u64, row.class as u64, row.release as u64, row.misses as u64];
+    let Ok(()) = PAGE_ROW.write(&values, line) else {
+        unreachable()
+    };
+}
+
+// The bytes of a foot.
+fn write_foot(line: &mut [u8], foot: Foot)
+    requires room { ⌜ length (now line) ≡ 36 ⌝ }
+    requires rows { ⌜ foot .rows ≤ 50000 ⌝ }
+    requires clock { ⌜ foot .clock ≤ 1000000000 ⌝ }
+    requires classes { ⌜ foot .classes ≤ 8 ⌝ }
+    requires misses { ⌜ foot .misses ≤ 9999 ⌝ }
+    ensures { λ _. ⌜ now (line .exit) ≡ footBytes foot ⌝ }
+{
+    let values = [foot.rows as u64, foot.clock as u64, foot.classes as u64, foot.bits as u64, foot.misses as u64];
+    line[0] = b'=';
+    let Ok(()) = FOOT.write(&values, &mut line[1..36]) else {
+        unreachable()
+    };
+}
