@@ -1,1 +1,4 @@
 pub mod Laws
+pub mod Steps
+pub mod Doubling
+pub mod Refusals

@@ -1,8 +1,38 @@
 // What a pace refuses.
+ghost use mathlib.Core.Path.{_≡_};
+ghost use Rattle.pace.specs.Refusals.{unknownClassNumber, quantumFaultNumber, stepFaultNumber};
 
 // A class handed to a call is above 7.
 #[derive(Clone, Copy, PartialEq, Eq, Debug)]
 pub struct UnknownClass;
+
+impl UnknownClass {
+    // The number of the refusal.
+    pub fn number(&self) -> u32
+        ensures { λ r. ⌜ r ≡ unknownClassNumber (now (self .entry)) ⌝ }
+    {
+        8
+    }
+}
+
+// Why a quantum was not set: its class is above 7, or it is not from 1 to 1,000,000.
+#[derive(Clone, Copy, PartialEq, Eq, Debug)]
+pub enum QuantumFault {
+    Class(UnknownClass),
+    Range,
+}
+
+impl QuantumFault {
+    // The number of the refusal.
+    pub fn number(&self) -> u32
+        ensures { λ r. ⌜ r ≡ quantumFaultNumber (now (self .entry)) ⌝ }
+    {
+        match self {
+            QuantumFault::Class(unknown) => unknown.number(),
+            QuantumFault::Range => 9,
+        }
+    }
+}
 
 // Why a step was not added: its class is above 7; the first wait of a class is not from 1 to 1,000,000, or a later
 // one passes the horizon; or it is the seventeenth of its class, below the first doubled as often as its epoch says,
@@ -12,4 +42,17 @@ pub enum StepFault {
     Class(UnknownClass),
     Range,
     Order,
+}
+
+impl StepFault {
+    // The number of the refusal.
+    pub fn number(&self) -> u32
+        ensures { λ r. ⌜ r ≡ stepFaultNumber (now (self .entry)) ⌝ }
+    {
+        match self {
+            StepFault::Class(unknown) => unknown.number(),
+            StepFault::Range => 9,
+            StepFault::Order => 10,
+        }
+    }
 }

@@ -4,7 +4,11 @@ ghost use Prim.Native.Nat.{ℕ};
 ghost use Rattle.pace.specs.Laws.{PaceLaws, PenaltyLaw, quantumAnswer, waitAnswer};
 use fault::UnknownClass;
 
+mod doubled;
+pub mod doubling;
 pub mod fault;
+mod ladder;
+mod quantum;
 pub mod rules;
 pub mod steps;
 

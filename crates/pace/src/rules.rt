@@ -12,3 +12,15 @@ pub impl Penalty for OwnRule as OwnRulePenalty {
         own
     }
 }
+
+// Every class counts the misses of all.
+#[derive(Clone, Copy, PartialEq, Eq, Debug)]
+pub struct SharedRule;
+
+pub impl Penalty for SharedRule as SharedRulePenalty {
+    ghost rule = { λ _ own all. all };
+
+    fn epoch(&self, _own: u32, all: u32) -> u32 {
+        all
+    }
+}
