@@ -1,0 +1,5 @@
+pub mod Fields
+pub mod Columns
+pub mod Faults
+pub mod Rows
+pub mod Refusals

@@ -1,0 +1,140 @@
+// What is refused in a text. Each layer's fault holds whole the fault of the layer beneath, with the number of the
+// part that it was found in.
+ghost use mathlib.Core.Path.{_≡_};
+ghost use Rattle.text.specs.Faults.{numberedAnswer};
+ghost use Rattle.text.specs.Refusals.{refusalOf};
+ghost use Rattle.text.specs.declared.fault.RowFault.the-variants.{Field, Step};
+ghost use Rattle.text.specs.declared.fault.FileFault.the-variants.{Row};
+use super::field::FieldFault;
+use super::field::FieldFaultDebug;
+use super::field::FieldFaultPartialEq;
+use pace::fault::StepFault;
+use pace::fault::StepFaultDebug;
+use pace::fault::StepFaultPartialEq;
+
+// A fault, and the number, from 1, of the part that it was found in.
+#[derive(Clone, Copy, PartialEq, Eq, Debug)]
+pub struct Numbered<E> {
+    pub number: u32,
+    pub fault: E,
+}
+
+// Why a row was refused: a field of it, its end, its place in the file, or the step that it holds.
+#[derive(Clone, Copy, PartialEq, Eq, Debug)]
+pub enum RowFault {
+    Field(Numbered<FieldFault>),
+    Newline,
+    Order,
+    Step(StepFault),
+}
+
+// Why a file was refused: a row of it, or its size.
+#[derive(Clone, Copy, PartialEq, Eq, Debug)]
+pub enum FileFault {
+    Row(Numbered<RowFault>),
+    Size,
+}
+
+pub impl From<Numbered<FieldFault>> for RowFault as RowFromField {
+    ghost converts = { λ f r. r ≡ Field f };
+
+    fn from(f: Numbered<FieldFault>) -> RowFault {
+        RowFault::Field(f)
+    }
+}
+
+pub impl From<StepFault> for RowFault as RowFromStep {
+    ghost converts = { λ f r. r ≡ Step f };
+
+    fn from(f: StepFault) -> RowFault {
+        RowFault::Step(f)
+    }
+}
+
+pub impl From<Numbered<RowFault>> for FileFault as FileFromRow {
+    ghost converts = { λ f r. r ≡ Row f };
+
+    fn from(f: Numbered<RowFault>) -> FileFault {
+        FileFault::Row(f)
+    }
+}
+
+// Puts the number of a part on the fault that was found in it.
+pub(crate) fn at_number<T, E>(number: u32, r: Result<T, E>) -> Result<T, Numbered<E>>
+    ensures { λ a. ⌜ a ≡ numberedAnswer number r ⌝ }
+{
+    match r {
+        Ok(v) => Ok(v),
+        Err(fault) => Err(Numbered { number, fault }),
+    }
+}
+
+// A refusal as it is printed: its number, and the row and field that it names. A part that does not apply is 0.
+#[derive(Clone, Copy, PartialEq, Eq, Debug)]
+pub struct Refusal {
+    pub number: u32,
+    pub row: u32,
+    pub field: u32,
+}
+
+impl FileFault {
+    // The refusal that a fault is printed as.
+    pub fn refusal(self) -> Refusal
+        ensures { λ r. ⌜ r ≡ refusalOf self ⌝ }
+    {
+        let FileFault::Row(Numbered { number: row, fault }) = self else {
+            return Refusal {
+                number: 4,
+                row: 0,
+                field: 0,
+            };
+        };
+        match fault {
+            RowFault::Field(
+                Numbered {
+                    number: field,
+                    fault: FieldFault::Form,
+                },
+            ) => Refusal {
+                number: 1,
+                row,
+                field,
+            },
+            RowFault::Field(
+                Numbered {
+                    number: field,
+                    fault: FieldFault::Limit,
+                },
+            ) => Refusal {
+                number: 2,
+                row,
+                field,
+            },
+            RowFault::Newline => Refusal {
+                number: 3,
+                row,
+                field: 0,
+            },
+            RowFault::Order => Refusal {
+                number: 5,
+                row,
+                field: 0,
+            },
+            RowFault::Step(StepFault::Class(_)) => Refusal {
+                number: 8,
+                row,
+                field: 0,
+            },
+            RowFault::Step(StepFault::Range) => Refusal {
+                number: 9,
+                row,
+                field: 0,
+            },
+            RowFault::Step(StepFault::Order) => Refusal {
+                number: 10,
+                row,
+                field: 0,
+            },
+        }
+    }
+}
