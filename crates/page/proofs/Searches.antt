@@ -1,15 +1,16 @@
 -- The searches by doubling: how far they get, and what they have found where they stop.
 use mathlib.Core.Path.{_≡_, refl, sym, _∙_, ap, subst}
 use mathlib.Core.Logic.{_⊎_, inl, inr}
-use Prim.Native.Nat.{ℕ, suc, _+_, _-_, _*_, _^_, _≤_, _<_}
+use Prim.Native.Nat.{ℕ, zero, suc, _+_, _-_, _*_, _^_, _≤_, _<_}
 use native.Mathlib.Omega.{arith}
-use native.Mathlib.Nat.{mul-le-mul, mul-le-mul-right, two-pow-succ}
+use native.Mathlib.Nat.{mul-le-mul, mul-le-mul-right, two-pow-succ, add-zero}
 use lib.Pow.{pow-mono, pow-pos}
-use Rattle.std.proofs.shelf.Tests.{cases-lt}
+use lib.Dec.{leb}
+use Rattle.std.proofs.shelf.Tests.{cases-lt, cases-bool, leb-true, leb-false}
 use mathlib.Core.Bool.{Bool}
 use Rattle.gate.specs.Leaks.{Most, share, over}
 use Rattle.gate.proofs.Mosts.{most-last}
-use Rattle.page.specs.Bits.{Enough}
+use Rattle.page.specs.Bits.{Enough, bitsFrom, rowBits}
 
 pub power-more : (n : ℕ) → 2 ^ (n + 1) ≡ 2 ^ n + 2 ^ n
 power-more n = let e : n + 1 ≡ suc n = omega arith in ap (λ k. 2 ^ k) e ∙ two-pow-succ n
@@ -76,6 +77,24 @@ module _ (rows b power : ℕ) (f : Lacking rows b power) where
 
   pub bits-few : rows ≤ 50000 → b ≤ 16
   bits-few small = f .least 16 (omega arith)
+
+-- the computed number of bits is the least
+bits-up : (f rows b : ℕ) → rows + 1 ≤ 2 ^ (b + f) → ((i : ℕ) → rows + 1 ≤ 2 ^ i → b ≤ i) → Enough rows (bitsFrom f rows b)
+bits-up zero rows b h l = record { enough = subst (λ n. rows + 1 ≤ 2 ^ n) (add-zero b) h; least = l }
+bits-up (suc f) rows b h l =
+    elim (cases-bool (leb (rows + 1) (2 ^ b))) [
+      | inl e ↦ rw (e, bitsFrom) (record { enough = leb-true (rows + 1) (2 ^ b) e; least = l })
+      | inr e ↦ rw (e, bitsFrom)
+          (bits-up f rows (suc b) (subst (λ n. rows + 1 ≤ 2 ^ n) (let k : b + suc f ≡ suc b + f = omega arith in k) h)
+          (λ i g. elim (cases-lt b i) [ inl lt ↦ lt | inr le ↦ (let w : 2 ^ i ≤ 2 ^ b = pow-mono le in absurd (omega (arith, w, leb-false (rows + 1) (2 ^ b) e))) ]))
+    ]
+
+pub row-bits : (rows : ℕ) → rows ≤ 50000 → Enough rows (rowBits rows)
+unfolding rowBits
+row-bits rows h = bits-up 16 rows 0 (omega arith) (λ i g. omega arith)
+
+pub enough-is : (rows b : ℕ) → rows ≤ 50000 → Enough rows b → b ≡ rowBits rows
+enough-is rows b h e = let r = row-bits rows h in omega (arith, e .least (rowBits rows) (r .enough), r .least b (e .enough))
 
 -- one class more in a sum over classes
 pub over-more : (n : ℕ) (f : ℕ → ℕ) (occurs : ℕ → Bool) → over (n + 1) f occurs ≡ over n f occurs + share (f n) (occurs n)

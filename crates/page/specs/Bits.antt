@@ -4,7 +4,8 @@
 --   occursIn   whether a class is marked in a table of eight
 --   count      how many are marked
 use mathlib.Core.Bool.{Bool, true, false}
-use mathlib.Core.List.{List, [], _∷_}
+use mathlib.Core.List.{List}
+use Rattle.std.specs.shelf.Lists.{countBy}
 use Prim.Native.Nat.{ℕ, zero, suc, _+_, _^_, _≤_}
 use lib.Dec.{leb}
 use lib.ListN.{getD}
@@ -25,5 +26,4 @@ abbrev pub occursIn : List Bool → ℕ → Bool
 occursIn marks c = getD marks c false
 
 abbrev pub count : List Bool → ℕ
-count [] = 0
-count (m ∷ ms) = elim m [ true ↦ suc (count ms) | false ↦ count ms ]
+count marks = countBy (λ (m : Bool). m) marks

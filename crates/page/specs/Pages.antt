@@ -21,7 +21,7 @@ use Rattle.page.specs.declared.line.PageFault.{PageFault}
 use Rattle.page.specs.declared.line.PageFault.the-variants.{Class, Order, Room}
 use Rattle.page.specs.declared.tally.Tally.{Tally}
 use Rattle.page.specs.declared.sheet.OpenPage.{OpenPage}
-use Rattle.page.specs.declared.ClosedPage.{ClosedPage}
+use Rattle.page.specs.declared.sheet.ClosedPage.{ClosedPage}
 use Rattle.page.specs.declared.RefusedPage.{RefusedPage}
 use Rattle.page.specs.Bits.{rowBits, occursIn, count}
 
@@ -35,7 +35,8 @@ taken t r =
       rows = t .rows + 1;
       clock = r .release;
       misses = t .misses + r .misses;
-      occurs = set (t .occurs) (r .«class») true }
+      occurs = set (t .occurs) (r .«class») true;
+    }
 
 -- asked not after the release, the release after the last one and within the horizon, at most 29 misses, and at most
 -- 9,999 on the page
@@ -50,9 +51,10 @@ roomy t room = ltb (t .rows) 50000 && leb (36 * t .rows + 72) room
 
 abbrev pub rowAnswer : Tally → PageRow → ℕ → Result (Unit {0}) PageFault
 rowAnswer t r room =
-    elim (leb (r .«class») 7)
-    [ true ↦ elim (orderly t r) [ true ↦ elim (roomy t room) [ true ↦ Ok tt | false ↦ Err Room ] | false ↦ Err Order ]
-    | false ↦ Err Class ]
+    elim (leb (r .«class») 7) [
+      | true ↦ elim (orderly t r) [ true ↦ elim (roomy t room) [ true ↦ Ok tt | false ↦ Err Room ] | false ↦ Err Order ]
+      | false ↦ Err Class
+    ]
 
 abbrev pub rowBytes : ℕ → PageRow → List ℕ
 rowBytes number r = rowShown pageRow (number ∷ r .asked ∷ r .«class» ∷ r .release ∷ r .misses ∷ [])
@@ -65,7 +67,8 @@ footOf quanta t =
       clock = t .clock;
       classes = count (t .occurs);
       bits = rowBits (t .rows) * exponent quanta (t .clock - t .opening) (occursIn (t .occurs));
-      misses = t .misses }
+      misses = t .misses;
+    }
 
 -- "=" and the fields of the foot
 abbrev pub footBytes : Foot → List ℕ

@@ -36,7 +36,15 @@ pub fn begin(buf: &[u8], opening: Opening) -> Result<OpenPage, PageFault>
         return Err(PageFault::Room);
     }
     let tick = opening.tick();
-    Ok(OpenPage { tally: Tally { opening: tick, rows: 0, clock: tick, misses: 0, occurs: [false; 8] } })
+    Ok(OpenPage {
+        tally: Tally {
+            opening: tick,
+            rows: 0,
+            clock: tick,
+            misses: 0,
+            occurs: [false; 8],
+        },
+    })
 }
 
 impl OpenPage {
@@ -60,7 +68,10 @@ impl OpenPage {
     {
         let at = LINE * self.tally.rows as usize;
         if buf.len() < at + LINE {
-            return Err(RefusedPage { fault: PageFault::Room, page: self });
+            return Err(RefusedPage {
+                fault: PageFault::Room,
+                page: self,
+            });
         }
         let OpenPage { tally } = self;
         write_foot(&mut buf[at..at + LINE], tally.foot(quanta));
@@ -87,7 +98,13 @@ fn write_row(line: &mut [u8], number: u32, row: PageRow)
     requires misses { ⌜ row .misses ≤ 29 ⌝ }
     ensures { λ _. ⌜ now (line .exit) ≡ rowBytes number row ⌝ }
 {
-    let values = [number as u64, row.asked as u64, row.class as u64, row.release as u64, row.misses as u64];
+    let values = [
+        number as u64,
+        row.asked as u64,
+        row.class as u64,
+        row.release as u64,
+        row.misses as u64,
+    ];
     let Ok(()) = PAGE_ROW.write(&values, line) else {
         unreachable()
     };
@@ -102,7 +119,13 @@ fn write_foot(line: &mut [u8], foot: Foot)
     requires misses { ⌜ foot .misses ≤ 9999 ⌝ }
     ensures { λ _. ⌜ now (line .exit) ≡ footBytes foot ⌝ }
 {
-    let values = [foot.rows as u64, foot.clock as u64, foot.classes as u64, foot.bits as u64, foot.misses as u64];
+    let values = [
+        foot.rows as u64,
+        foot.clock as u64,
+        foot.classes as u64,
+        foot.bits as u64,
+        foot.misses as u64,
+    ];
     line[0] = b'=';
     let Ok(()) = FOOT.write(&values, &mut line[1..36]) else {
         unreachable()

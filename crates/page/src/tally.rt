@@ -1,6 +1,6 @@
 // The plain numbers of a page that is being written.
 ghost use mathlib.Core.Path.{_≡_};
-ghost use Prim.Native.Nat.{_+_, _≤_};
+ghost use Prim.Native.Nat.{_+_, _<_, _≤_};
 ghost use lib.ListN.{length};
 ghost use Rattle.page.specs.Pages.{orderly, taken, rowAnswer, footOf};
 use super::leak::exponent;
@@ -17,6 +17,7 @@ use source::reply::LAST_CLASS;
 
 // A row has at most this many misses, and a page at most so many.
 pub const MOST_ROW_MISSES: u32 = 29;
+
 pub const MOST_PAGE_MISSES: u32 = 9_999;
 
 // The opening, the rows so far, the last release or else the opening, the misses of all rows, the classes that occur.
@@ -54,7 +55,11 @@ impl Tally {
         if !self.admits(row) {
             return Err(PageFault::Order);
         }
-        if self.rows < MOST_ROWS && LINE * self.rows as usize + 2 * LINE <= room { Ok(()) } else { Err(PageFault::Room) }
+        if self.rows < MOST_ROWS && LINE * self.rows as usize + 2 * LINE <= room {
+            Ok(())
+        } else {
+            Err(PageFault::Room)
+        }
     }
 
     // The tally with one row more, which was judged.
@@ -66,7 +71,13 @@ impl Tally {
     {
         let mut occurs = self.occurs;
         occurs[row.class as usize] = true;
-        Tally { opening: self.opening, rows: self.rows + 1, clock: row.release, misses: self.misses + row.misses, occurs }
+        Tally {
+            opening: self.opening,
+            rows: self.rows + 1,
+            clock: row.release,
+            misses: self.misses + row.misses,
+            occurs,
+        }
     }
 
     // The foot that the rows so far and the quanta of a pace give.
@@ -79,6 +90,12 @@ impl Tally {
     {
         let span = self.clock - self.opening;
         let bits = row_bits(self.rows) * exponent(quanta, &self.occurs, span);
-        Foot { rows: self.rows, clock: self.clock, classes: marked(&self.occurs), bits, misses: self.misses }
+        Foot {
+            rows: self.rows,
+            clock: self.clock,
+            classes: marked(&self.occurs),
+            bits,
+            misses: self.misses,
+        }
     }
 }

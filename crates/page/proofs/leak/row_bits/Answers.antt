@@ -1,5 +1,5 @@
 use native.Mathlib.Omega.{arith}
-use Rattle.page.proofs.Searches.{lacking-more, lacking-enough, bits-few}
+use Rattle.page.proofs.Searches.{lacking-more, lacking-enough, bits-few, enough-is}
 use Rattle.page.proofs.leak.row_bits.Needs as need
 
 pub add-b : need.add-b
@@ -12,4 +12,4 @@ pub loop-power-again : need.loop-power-again
 loop-power-again c = lacking-more _ _ _ (c .loop-power .inv) (c .loop-power-test .taken)
 
 pub returns : need.returns
-returns c = record { enough = lacking-enough _ _ _ (c .loop-power .inv) (c .loop-power-test .left); few = bits-few _ _ _ (c .loop-power .inv) (c .pre) }
+returns c = record { value = enough-is _ _ (c .pre) (lacking-enough _ _ _ (c .loop-power .inv) (c .loop-power-test .left)); few = bits-few _ _ _ (c .loop-power .inv) (c .pre) }
