@@ -3,3 +3,4 @@ pub mod Settling
 pub mod Rows
 pub mod Releases
 pub mod Mosts
+pub mod Nexts

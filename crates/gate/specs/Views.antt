@@ -6,9 +6,10 @@
 --   released       the replies that the gate will release, and `ending` why they end
 --   View           what is coming below the gate, how that ends, where the gate stands, how many replies were taken
 --   viewOf         what the gate at hand shows; `opened`, what it shows when it is opened
+--   Timely         what every release keeps
 --   answer         what head and take answer; `release`, the same with the misses; `next`, the view after a take
 use mathlib.Core.List.{List, [], _∷_}
-use Prim.Native.Nat.{ℕ, suc, _+_, max}
+use Prim.Native.Nat.{ℕ, suc, _+_, _<_, _≤_, max}
 use lib.ListN.{getD, set, replicate}
 use Rattle.std.specs.declared.option.Option.{Option}
 use Rattle.std.specs.declared.option.Option.the-variants.{None, Some}
@@ -21,6 +22,7 @@ use Rattle.source.specs.declared.reply.End.{End}
 use Rattle.source.specs.declared.reply.End.the-variants.{Horizon}
 use Rattle.pace.specs.declared.Pace as Pace
 use Rattle.pace.specs.declared.Penalty as Penalty
+use Rattle.source.specs.Replies.{horizon}
 use Rattle.gate.specs.declared.Gate.{Gate}
 use Rattle.gate.specs.declared.Release.{Release}
 use Rattle.gate.specs.declared.ledger.Ledger.{Ledger}
@@ -109,6 +111,15 @@ module _ {B : Type 0} where
 
   abbrev pub next : Rules → View B → View B
   next m v = nextFrom m v (v .coming)
+
+-- what every release keeps: it is not before it was asked, after the clock and within the horizon; its class is known;
+-- and it missed at most 29 predictions
+pub record Timely {B : Type 0} (clock : ℕ) (x : Release B) : Type 0 where
+  pub asked : x .reply .asked ≤ x .reply .ready
+  pub after : clock < x .reply .ready
+  pub within : x .reply .ready ≤ horizon
+  pub known : x .reply .«class» ≤ 7
+  pub few : x .misses ≤ 29
 
 abbrev pub standingOf : Ledger → Standing
 standingOf l = record { opening = l .opening; clock = l .clock; misses = missesIn (l .rows) }

@@ -6,7 +6,8 @@ ghost use Rattle.std.specs.declared.result.Result.the-variants.{Err};
 ghost use Rattle.source.specs.Replies.{first};
 ghost use Rattle.source.specs.declared.reply.End.{End};
 ghost use Rattle.gate.specs.Rows.{noRow};
-ghost use Rattle.gate.specs.Views.{viewOf, rulesIn, standingOf, opened, settled, base, released, ending, answer, release, next};
+ghost use Rattle.gate.specs.Views.{viewOf, rulesIn, standingOf, opened, settled, base, released, ending, answer, release, next, Timely};
+ghost use Rattle.std.specs.Vec.{made};
 use ledger::Ledger;
 use opening::Opening;
 use pace::Pace;
@@ -136,6 +137,7 @@ impl<S: Source, P: Pace, R: Penalty> Gate<S, P, R> {
         ensures after { λ _. ⌜ viewOf S·Source (now (self .exit)) ≡ next (rulesIn P·Pace R·Penalty (now (self .entry))) (viewOf S·Source (now (self .entry))) ⌝ }
         ensures same { λ _. ⌜ rulesIn P·Pace R·Penalty (now (self .exit)) ≡ rulesIn P·Pace R·Penalty (now (self .entry)) ⌝ }
         ensures refused { λ r. ⌜ ((e : End) → r ≡ Err e → now (self .exit) ≡ now (self .entry)) ⌝ }
+        ensures timely { λ r. ⌜ made r (Timely (viewOf S·Source (now (self .entry)) .standing .clock)) ⌝ }
     {
         let reply = self.source.head()?;
         let Some(settled) = self.settle(reply) else {

@@ -49,12 +49,15 @@ orderly t r =
 abbrev pub roomy : Tally → ℕ → Bool
 roomy t room = ltb (t .rows) 50000 && leb (36 * t .rows + 72) room
 
+-- the verdict on a row by its class, its order and the room
+abbrev pub verdict : Bool → Bool → Bool → Result (Unit {0}) PageFault
+verdict false order room = Err Class
+verdict true false room = Err Order
+verdict true true false = Err Room
+verdict true true true = Ok tt
+
 abbrev pub rowAnswer : Tally → PageRow → ℕ → Result (Unit {0}) PageFault
-rowAnswer t r room =
-    elim (leb (r .«class») 7) [
-      | true ↦ elim (orderly t r) [ true ↦ elim (roomy t room) [ true ↦ Ok tt | false ↦ Err Room ] | false ↦ Err Order ]
-      | false ↦ Err Class
-    ]
+rowAnswer t r room = verdict (leb (r .«class») 7) (orderly t r) (roomy t room)
 
 abbrev pub rowBytes : ℕ → PageRow → List ℕ
 rowBytes number r = rowShown pageRow (number ∷ r .asked ∷ r .«class» ∷ r .release ∷ r .misses ∷ [])

@@ -4,7 +4,7 @@ ghost use Prim.Native.Nat.{_+_, _*_, _<_, _≤_};
 ghost use lib.ListN.{length};
 ghost use Rattle.std.specs.Results.{Cases};
 ghost use Rattle.page.specs.declared.line.PageFault.the-variants.{Room};
-ghost use Rattle.page.specs.Pages.{begun, taken, rowAnswer, rowBytes, footOf, footBytes, RowLeaves, CloseLeaves};
+ghost use Rattle.page.specs.Pages.{begun, taken, roomy, rowAnswer, rowBytes, footOf, footBytes, RowLeaves, CloseLeaves};
 use gate::opening::Opening;
 use line::Foot;
 use line::LINE;
@@ -48,6 +48,13 @@ pub fn begin(buf: &[u8], opening: Opening) -> Result<OpenPage, PageFault>
 }
 
 impl OpenPage {
+    // Whether a buffer has room for one row more and a foot.
+    pub fn has_room(&self, buf: &[u8]) -> bool
+        ensures { λ r. ⌜ r ≡ roomy (now (self .entry) .tally) (length (now (buf .entry))) ⌝ }
+    {
+        self.tally.has_room(buf.len())
+    }
+
     // Writes one row more into the part of the buffer that starts at 36 times the rows.
     // Refused, it leaves the page and the buffer as they were.
     pub fn row(&mut self, buf: &mut [u8], row: PageRow) -> Result<(), PageFault>

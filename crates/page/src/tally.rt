@@ -2,7 +2,7 @@
 ghost use mathlib.Core.Path.{_≡_};
 ghost use Prim.Native.Nat.{_+_, _<_, _≤_};
 ghost use lib.ListN.{length};
-ghost use Rattle.page.specs.Pages.{orderly, taken, rowAnswer, footOf};
+ghost use Rattle.page.specs.Pages.{orderly, roomy, taken, rowAnswer, footOf};
 use super::leak::exponent;
 use super::leak::marked;
 use super::leak::row_bits;
@@ -43,6 +43,14 @@ impl Tally {
             && self.misses + row.misses <= MOST_PAGE_MISSES
     }
 
+    // Whether a buffer of so many bytes has room for one row more and a foot.
+    pub(crate) fn has_room(&self, room: usize) -> bool
+        requires { ⌜ now self .rows ≤ 50000 ⌝ }
+        ensures { λ r. ⌜ r ≡ roomy (now (self .entry)) room ⌝ }
+    {
+        self.rows < MOST_ROWS && LINE * self.rows as usize + 2 * LINE <= room
+    }
+
     // Whether a page in a buffer of so many bytes takes a row, or why not.
     pub(crate) fn judge(&self, row: PageRow, room: usize) -> Result<(), PageFault>
         requires few { ⌜ now self .rows ≤ 50000 ⌝ }
@@ -55,7 +63,7 @@ impl Tally {
         if !self.admits(row) {
             return Err(PageFault::Order);
         }
-        if self.rows < MOST_ROWS && LINE * self.rows as usize + 2 * LINE <= room {
+        if self.has_room(room) {
             Ok(())
         } else {
             Err(PageFault::Room)

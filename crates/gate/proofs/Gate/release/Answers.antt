@@ -77,5 +77,13 @@ returns g c =
           (misses-set (l .rows) (r .«class») s row is (k .short)) (omega (arith, releases-sum (l .rows) (r .«class») s row is (k .short)))
           ∙ next-is m v (v .coming) r s (c .in-Continue-reply .ensures tt) (c .in-Some .ensures tt);
       same = refl;
+      timely =
+          record {
+            asked = omega (arith, k .up .rises);
+            after = omega (arith, k .up .rises);
+            within = k .up .within;
+            known = omega (arith, k .known);
+            few = omega (arith, k .few-misses);
+          };
       refused = λ e z. let y : _≡_ {A = ℕ} 0 1 = cc in absurd (omega arith);
     }
