@@ -7,3 +7,6 @@ pub mod RowReading
 pub mod RowWriting
 pub mod RowLaws
 pub mod Layers
+pub mod FileReading
+pub mod ListReading
+pub mod Pairing

@@ -3,3 +3,7 @@ pub mod Columns
 pub mod Faults
 pub mod Rows
 pub mod Refusals
+pub mod Files
+pub mod Lists
+pub mod Schedules
+pub mod Pairs

@@ -2,7 +2,7 @@
 // part that it was found in.
 ghost use mathlib.Core.Path.{_≡_};
 ghost use Rattle.text.specs.Faults.{numberedAnswer};
-ghost use Rattle.text.specs.Refusals.{refusalOf};
+ghost use Rattle.text.specs.Refusals.{refusal, fieldFaultNumber, refusalOf};
 ghost use Rattle.text.specs.declared.fault.RowFault.the-variants.{Field, Step};
 ghost use Rattle.text.specs.declared.fault.FileFault.the-variants.{Row};
 use super::field::FieldFault;
@@ -77,64 +77,39 @@ pub struct Refusal {
     pub field: u32,
 }
 
+impl Refusal {
+    pub(crate) fn new(number: u32, row: u32, field: u32) -> Refusal
+        ensures { λ r. ⌜ r ≡ refusal number row field ⌝ }
+    {
+        Refusal { number, row, field }
+    }
+}
+
+impl FieldFault {
+    // The number of the refusal.
+    fn number(&self) -> u32
+        ensures { λ r. ⌜ r ≡ fieldFaultNumber (now (self .entry)) ⌝ }
+    {
+        match self {
+            FieldFault::Form => 1,
+            FieldFault::Limit => 2,
+        }
+    }
+}
+
 impl FileFault {
     // The refusal that a fault is printed as.
-    pub fn refusal(self) -> Refusal
-        ensures { λ r. ⌜ r ≡ refusalOf self ⌝ }
+    pub fn refusal(&self) -> Refusal
+        ensures { λ r. ⌜ r ≡ refusalOf (now (self .entry)) ⌝ }
     {
-        let FileFault::Row(Numbered { number: row, fault }) = self else {
-            return Refusal {
-                number: 4,
-                row: 0,
-                field: 0,
-            };
+        let FileFault::Row(row) = *self else {
+            return Refusal::new(4, 0, 0);
         };
-        match fault {
-            RowFault::Field(
-                Numbered {
-                    number: field,
-                    fault: FieldFault::Form,
-                },
-            ) => Refusal {
-                number: 1,
-                row,
-                field,
-            },
-            RowFault::Field(
-                Numbered {
-                    number: field,
-                    fault: FieldFault::Limit,
-                },
-            ) => Refusal {
-                number: 2,
-                row,
-                field,
-            },
-            RowFault::Newline => Refusal {
-                number: 3,
-                row,
-                field: 0,
-            },
-            RowFault::Order => Refusal {
-                number: 5,
-                row,
-                field: 0,
-            },
-            RowFault::Step(StepFault::Class(_)) => Refusal {
-                number: 8,
-                row,
-                field: 0,
-            },
-            RowFault::Step(StepFault::Range) => Refusal {
-                number: 9,
-                row,
-                field: 0,
-            },
-            RowFault::Step(StepFault::Order) => Refusal {
-                number: 10,
-                row,
-                field: 0,
-            },
+        match row.fault {
+            RowFault::Field(field) => Refusal::new(field.fault.number(), row.number, field.number),
+            RowFault::Newline => Refusal::new(3, row.number, 0),
+            RowFault::Order => Refusal::new(5, row.number, 0),
+            RowFault::Step(step) => Refusal::new(step.number(), row.number, 0),
         }
     }
 }

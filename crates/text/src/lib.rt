@@ -2,5 +2,9 @@
 pub mod column;
 pub mod fault;
 pub mod field;
+mod file;
 pub mod layout;
+pub mod list;
+pub mod pair;
 pub mod row;
+pub mod schedule;

@@ -1,0 +1,58 @@
+-- List files: a row is a reply whose body is a word. Nothing is assumed.
+--   replyOf      the reply of a row's numbers: asked, class, ready, word
+--   replyRead    the reply of a row, or the row's fault; its order is judged last
+--   listAnswer   the number of replies in a file, or its first fault
+--   listRead     the replies of a file, up to the first fault
+--   over         a list written over the front of another
+use mathlib.Core.Bool.{true, false, _&&_}
+use mathlib.Core.List.{List, [], _∷_, _++_}
+use Prim.Native.Nat.{ℕ, min}
+use lib.Dec.{leb}
+use lib.ListN.{length, getD, drop}
+use Rattle.std.specs.declared.result.Result.{Result}
+use Rattle.std.specs.declared.result.Result.the-variants.{Ok, Err}
+use Rattle.source.specs.declared.reply.Reply.{Reply}
+use Rattle.text.specs.declared.fault.RowFault.{RowFault}
+use Rattle.text.specs.declared.fault.RowFault.the-variants.{Order}
+use Rattle.text.specs.declared.fault.FileFault.{FileFault}
+use Rattle.text.specs.Columns.{listRow}
+use Rattle.text.specs.Rows.{rowRead}
+use Rattle.text.specs.Files.{fileAnswer, fileRead}
+
+abbrev pub replyOf : List ℕ → Reply ℕ
+replyOf vs = record { asked = getD vs 0 0; «class» = getD vs 1 0; ready = getD vs 2 0; body = getD vs 3 0 }
+
+-- a reply that may follow one asked at `last`
+abbrev pub ordered : ℕ → Reply ℕ → Result (Reply ℕ) RowFault
+ordered last r = elim (leb last (r .asked) && leb (r .asked) (r .ready)) [ true ↦ Ok r | false ↦ Err Order ]
+
+abbrev pub replyFrom : ℕ → Result (List ℕ) RowFault → Result (Reply ℕ) RowFault
+replyFrom last (Ok vs) = ordered last (replyOf vs)
+replyFrom last (Err f) = Err f
+
+abbrev pub replyRead : ℕ → List ℕ → Result (Reply ℕ) RowFault
+replyRead last row = replyFrom last (rowRead 1 listRow row)
+
+-- the asked tick of the last reply, or `a` where there is none
+abbrev pub lastAsked : ℕ → List (Reply ℕ) → ℕ
+lastAsked a [] = a
+lastAsked a (r ∷ rs) = lastAsked (r .asked) rs
+
+abbrev pub onto : List (Reply ℕ) → Result (Reply ℕ) RowFault → Result (List (Reply ℕ)) RowFault
+onto rs (Ok r) = Ok (rs ++ r ∷ [])
+onto rs (Err f) = Err f
+
+-- a row adds its reply to those read before it
+abbrev pub listStep : List (Reply ℕ) → List ℕ → Result (List (Reply ℕ)) RowFault
+listStep rs row = onto rs (replyRead (lastAsked 0 rs) row)
+
+-- `room` is how many replies the buffer holds
+abbrev pub listAnswer : List ℕ → ℕ → Result ℕ FileFault
+listAnswer bytes room = fileAnswer listStep 35 [] bytes (min 50000 room)
+
+abbrev pub listRead : List ℕ → ℕ → List (Reply ℕ)
+listRead bytes room = fileRead listStep 35 [] bytes (min 50000 room) []
+
+module _ {A : Type 0} where
+  abbrev pub over : List A → List A → List A
+  over new old = new ++ drop (length new) old
