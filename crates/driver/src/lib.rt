@@ -1,2 +1,3 @@
 // Whole jobs: a gate driven onto a page, and two texts turned into the bytes to print.
+pub mod job;
 pub mod replay;

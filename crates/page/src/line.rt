@@ -1,4 +1,6 @@
 // The rows of a page: one for each release, and the foot.
+ghost use mathlib.Core.Path.{_≡_};
+ghost use Rattle.page.specs.Refusals.{pageNumber};
 
 // A page holds at most this many rows; its foot is extra.
 pub const MOST_ROWS: u32 = 50_000;
@@ -33,4 +35,17 @@ pub enum PageFault {
     Class,
     Order,
     Room,
+}
+
+impl PageFault {
+    // The number that the refusal is printed as.
+    pub fn number(&self) -> u32
+        ensures { λ r. ⌜ r ≡ pageNumber (now (self .entry)) ⌝ }
+    {
+        match self {
+            PageFault::Class => 8,
+            PageFault::Order => 5,
+            PageFault::Room => 11,
+        }
+    }
 }
