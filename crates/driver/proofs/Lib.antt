@@ -1,3 +1,4 @@
 pub mod Driving
 pub mod ListsRead
 pub mod Opened
+pub mod Places

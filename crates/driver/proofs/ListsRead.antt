@@ -57,6 +57,20 @@ count-within width most size n e =
     never : {a : ℕ} {f : FileFault} → _≡_ {A = Result ℕ FileFault} (Ok a) (Err f) → ⊥
     never p = let z : _≡_ {A = ℕ} 0 1 = cc in omega arith
 
+-- a size is refused in one way
+pub count-refused : (width most size : ℕ) (f : FileFault) → Err f ≡ rowCount width most size → f ≡ Size
+count-refused width most size f e =
+    elim (cases-bool (eqb (size % width) 0 && leb (size / width) most)) [
+      | inl t ↦ (let is : rowCount width most size ≡ Ok (size / width) = rw (t, rowCount) refl in absurd (never (e ∙ is)))
+      | inr t ↦ (let is : rowCount width most size ≡ Err Size = rw (t, rowCount) refl in same (e ∙ is))
+    ]
+  where
+    same : {g h : FileFault} → _≡_ {A = Result ℕ FileFault} (Err g) (Err h) → g ≡ h
+    same p = cc
+
+    never : {a : ℕ} {g : FileFault} → _≡_ {A = Result ℕ FileFault} (Err g) (Ok a) → ⊥
+    never p = let z : _≡_ {A = ℕ} 0 1 = cc in omega arith
+
 -- a list that was read: its replies are as many as its rows, at most 50,000 and at most the room
 pub record Listed (bytes : List ℕ) (room count : ℕ) : Type 0 where
   pub long : length (listRead bytes room) ≡ count

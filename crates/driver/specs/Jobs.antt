@@ -5,6 +5,8 @@
 --   Ready       both texts are read, and every class of the list has a step
 --   Refused     the first refusal in order: schedule, list, pair, page
 --   JobLeaves   that refusal, or the page of that gate
+--   lineOf      a refusal line
+--   Prints      what is printed for both texts
 use mathlib.Core.Path.{_≡_}
 use mathlib.Core.List.{List, [], _∷_}
 use Prim.Native.Nat.{ℕ, _<_, _≤_}
@@ -18,6 +20,8 @@ use Rattle.pace.specs.Steps.{noSteps, ladder, stepsQuantum, stepsWait}
 use Rattle.gate.specs.Rules.{Rules}
 use Rattle.gate.specs.Views.{View, opened}
 use Rattle.text.specs.declared.fault.Refusal.{Refusal}
+use Rattle.text.specs.Columns.{refusalLine}
+use Rattle.text.specs.Rows.{rowShown}
 use Rattle.text.specs.Refusals.{refusalOf}
 use Rattle.text.specs.Lists.{listAnswer, listRead}
 use Rattle.text.specs.Schedules.{scheduleAnswer, scheduleRead}
@@ -29,7 +33,9 @@ use Rattle.driver.specs.declared.replay.Replayed.{Replayed}
 use Rattle.driver.specs.declared.job.Place.{Place}
 use Rattle.driver.specs.declared.job.JobFault.{JobFault}
 use Rattle.driver.specs.declared.job.JobFault.the-variants as fault
-use Rattle.driver.specs.Replays.{Replays, ReplayLeaves}
+use Rattle.driver.specs.declared.job.Printed.{Printed}
+use Rattle.driver.specs.declared.job.Printed.the-variants as printed
+use Rattle.driver.specs.Replays.{Replays}
 
 abbrev pub placeIn : ℕ → Refusal → Place
 placeIn file r = record { number = r .number; file = file; row = r .row; field = r .field }
@@ -85,3 +91,16 @@ JobLeaves schedule list room buf buf′ (Err f) = Refused schedule list room f �
 JobLeaves schedule list room buf buf′ (Ok d) =
     Ready schedule list room
     × ((w : View ℕ) × Replays (jobRules (scheduleRead noSteps schedule)) (jobView (listRead list room)) w buf buf′ d)
+
+-- the four numbers of a place as they are printed
+abbrev pub lineOf : Place → List ℕ
+lineOf p = rowShown refusalLine (p .number ∷ p .file ∷ p .row ∷ p .field ∷ [])
+
+-- what is printed: the line of the first refusal, or the page of the gate at the front of the buffer
+abbrev pub Prints : List ℕ → List ℕ → ℕ → List ℕ → List ℕ → Printed → Type 0
+Prints schedule list room buf buf′ (printed.Refusal bytes) =
+    (f : JobFault) × Refused schedule list room f × Short f buf × (bytes ≡ lineOf (placeOf f)) × (buf′ ≡ buf)
+Prints schedule list room buf buf′ (printed.Page n) =
+    Ready schedule list room
+    × ((w : View ℕ) × (d : Replayed) × (n ≡ d .length)
+    × Replays (jobRules (scheduleRead noSteps schedule)) (jobView (listRead list room)) w buf buf′ d)

@@ -1,12 +1,12 @@
 // The whole job on bytes: a schedule and a list in, a page or a refusal line out.
 ghost use mathlib.Core.Path.{_≡_};
-ghost use Prim.Native.Nat.{ℕ};
+ghost use Prim.Native.Nat.{ℕ, _≤_};
 ghost use lib.ListN.{length};
 ghost use Rattle.pace.specs.Steps.{laddersOf, noSteps};
 ghost use Rattle.gate.specs.Views.{View};
 ghost use Rattle.driver.specs.Replays.{ReplayLeaves};
 ghost use Rattle.driver.specs.declared.job.JobFault.the-variants.{Pair, Page};
-ghost use Rattle.driver.specs.Jobs.{placeIn, placeOf, jobRules, jobView, Prepares, JobLeaves};
+ghost use Rattle.driver.specs.Jobs.{placeIn, placeOf, jobRules, jobView, Prepares, JobLeaves, lineOf, Prints};
 use super::replay::Replayed;
 use super::replay::replay;
 use gate::Gate;
@@ -145,4 +145,42 @@ pub fn run(
     let count = prepare(schedule, list, &mut steps, records)?;
     let replayed = print(&records[0..count], steps, out)?;
     Ok(replayed)
+}
+
+// What a job prints: that many bytes of the buffer, which are the page, or a refusal line.
+#[derive(Clone, Copy)]
+pub enum Printed {
+    Page(usize),
+    Refusal([u8; 25]),
+}
+
+// A refusal line: the four numbers of the place, each in six columns, and a newline.
+fn line(place: Place) -> [u8; 25]
+    requires number { ⌜ place .number ≤ 12 ⌝ }
+    requires file { ⌜ place .file ≤ 3 ⌝ }
+    requires row { ⌜ place .row ≤ 50000 ⌝ }
+    requires field { ⌜ place .field ≤ 9 ⌝ }
+    ensures { λ r. ⌜ r ≡ lineOf place ⌝ }
+{
+    let values = [
+        place.number as u64,
+        place.file as u64,
+        place.row as u64,
+        place.field as u64,
+    ];
+    let mut line = [0; 25];
+    let Ok(()) = REFUSAL_LINE.write(&values, &mut line) else {
+        unreachable()
+    };
+    line
+}
+
+// The whole job: what is printed for a schedule and a list. The records hold the list, and the buffer the page.
+pub fn job(schedule: &[u8], list: &[u8], records: &mut [Reply<u32>], out: &mut [u8]) -> Printed
+    ensures { λ r. ⌜ Prints (now (schedule .entry)) (now (list .entry)) (length (now (records .entry))) (now (out .entry)) (now (out .exit)) r ⌝ }
+{
+    match run(schedule, list, records, out) {
+        Ok(replayed) => Printed::Page(replayed.length),
+        Err(fault) => Printed::Refusal(line(fault.place())),
+    }
 }
