@@ -20,7 +20,7 @@ use Rattle.gate.specs.declared.predict.Settled.{Settled}
 use Rattle.gate.specs.Rules.{Rules, Laws}
 use Rattle.gate.specs.Rows.{noRow, missesAt, missesIn, releasesIn}
 use Rattle.gate.specs.Predictions.{Settles, settle}
-use Rattle.gate.specs.Views.{Standing, View, own, all, base, charged, settled, moved, released, ending, releaseFrom, nextFrom, standingOf}
+use Rattle.gate.specs.Views.{Standing, View, own, all, base, charged, settled, moved, released, ending, releaseFrom, nextFrom, standingOf, Timely}
 use Rattle.gate.proofs.Settling.{Risen, risen, few, settle-settles}
 use Rattle.gate.proofs.Rows.{misses-at, releases-at, part-of-sum, all-few}
 
@@ -106,3 +106,14 @@ module _ {B : Type 0} where
             (settled-follows m laws st last r (h .0) (l .0) (sym e), released-lawful m laws (charged st (r .«class») (h .0)) (r .asked) rs (l .1)))
         | inr e ↦ rw (e, released) tt
       ]
+
+  pub timely : (l : Ledger) (r : Reply B) (s : Settled) (x : Reply B) → Leaves l r s → x ≡ moved r (s .tick)
+      → Timely (l .clock) (record { reply = x; misses = s .misses })
+  timely l r s x k e =
+      subst (λ y. Timely (l .clock) (record { reply = y; misses = s .misses })) (sym e)
+      (record {
+         asked = omega (arith, k .up .rises);
+         after = omega (arith, k .up .rises);
+         within = k .up .within;
+         known = omega (arith, k .known);
+         few = omega (arith, k .few-misses) })

@@ -1,12 +1,10 @@
 // A gate: holds each reply of a source and lets it go at a predicted tick.
 ghost use mathlib.Core.Path.{_≡_};
 ghost use Prim.Native.Nat.{_≤_};
-ghost use lib.ListN.{replicate};
 ghost use Rattle.std.specs.declared.result.Result.the-variants.{Err};
 ghost use Rattle.source.specs.Replies.{first};
 ghost use Rattle.source.specs.declared.reply.End.{End};
-ghost use Rattle.gate.specs.Rows.{noRow};
-ghost use Rattle.gate.specs.Views.{viewOf, rulesIn, standingOf, opened, settled, base, released, ending, answer, release, next, Timely};
+ghost use Rattle.gate.specs.Views.{viewOf, rulesIn, standingOf, opened, settled, base, moved, released, ending, answer, release, next, Timely};
 ghost use Rattle.std.specs.Vec.{made};
 use ledger::Ledger;
 use opening::Opening;
@@ -42,21 +40,15 @@ pub struct Release<B> {
     pub misses: u32,
 }
 
-// The ledger of a gate that has released nothing yet.
-fn blank(opening: Opening) -> Ledger
-    ensures opening { λ r. ⌜ r .opening ≡ opening .tick ⌝ }
-    ensures clock { λ r. ⌜ r .clock ≡ opening .tick ⌝ }
-    ensures rows { λ r. ⌜ r .rows ≡ replicate 8 noRow ⌝ }
+// The reply, ready at its release tick.
+fn moved<B: Copy>(reply: Reply<B>, tick: u32) -> Reply<B>
+    ensures { λ r. ⌜ r ≡ moved reply tick ⌝ }
 {
-    let tick = opening.tick();
-    Ledger {
-        opening: tick,
-        clock: tick,
-        all_misses: 0,
-        rows: [Row {
-            misses: 0,
-            releases: 0,
-        }; 8],
+    Reply {
+        asked: reply.asked,
+        class: reply.class,
+        ready: tick,
+        body: reply.body,
     }
 }
 
@@ -68,11 +60,22 @@ impl<S: Source, P: Pace, R: Penalty> Gate<S, P, R> {
         ensures pace { λ g. ⌜ g .pace ≡ pace ⌝ }
         ensures penalty { λ g. ⌜ g .penalty ≡ penalty ⌝ }
     {
+        let tick = opening.tick();
+        let rows = [Row {
+            misses: 0,
+            releases: 0,
+        }; 8];
+        let ledger = Ledger {
+            opening: tick,
+            clock: tick,
+            all_misses: 0,
+            rows,
+        };
         Gate {
             source,
             pace,
             penalty,
-            ledger: blank(opening),
+            ledger,
         }
     }
 
@@ -122,12 +125,7 @@ impl<S: Source, P: Pace, R: Penalty> Gate<S, P, R> {
         let Some(settled) = self.settle(reply) else {
             return Err(End::Horizon);
         };
-        Ok(Reply {
-            asked: reply.asked,
-            class: reply.class,
-            ready: settled.tick,
-            body: reply.body,
-        })
+        Ok(moved(reply, settled.tick))
     }
 
     // Lets the next reply go: charges its misses, moves the clock, and answers the reply with its misses.
@@ -153,14 +151,8 @@ impl<S: Source, P: Pace, R: Penalty> Gate<S, P, R> {
             all_misses,
             rows,
         };
-        let reply = Reply {
-            asked: reply.asked,
-            class: reply.class,
-            ready: settled.tick,
-            body: reply.body,
-        };
         Ok(Release {
-            reply,
+            reply: moved(reply, settled.tick),
             misses: settled.misses,
         })
     }

@@ -1,4 +1,4 @@
-use mathlib.Core.Path.{_≡_, refl, sym, _∙_}
+use mathlib.Core.Path.{_≡_, refl, sym, _∙_, ap}
 use Prim.Native.Nat.{ℕ, _<_, _≤_}
 use native.Mathlib.Omega.{arith}
 use lib.ListN.{length-set}
@@ -10,7 +10,7 @@ use Rattle.gate.specs.declared.Gate.{Gate}
 use Rattle.gate.specs.declared.predict.Settled.{Settled}
 use Rattle.gate.specs.Views.{viewOf, rulesIn, base, standingOf, settled}
 use Rattle.gate.proofs.Rows.{misses-set, misses-sum, releases-sum, charged-set}
-use Rattle.gate.proofs.Releases.{first-follows, release-is, next-is, view-is, Leaves, leaves}
+use Rattle.gate.proofs.Releases.{first-follows, release-is, next-is, view-is, Leaves, leaves, timely}
 use Rattle.gate.proofs.Gate.release.Given as given
 use Rattle.gate.proofs.Gate.release.Needs as need
 
@@ -71,19 +71,14 @@ returns g c =
     let m = rulesIn (g .P·Pace) (g .R·Penalty) a in
     let v = viewOf (g .S·Source) a in
     record {
-      value = release-is m v (v .coming) r s (c .in-Continue-reply .ensures tt) (c .in-Some .ensures tt);
+      value =
+        ap (λ x. Ok (record { reply = x; misses = s .misses })) (c .moved .ensures)
+        ∙ release-is m v (v .coming) r s (c .in-Continue-reply .ensures tt) (c .in-Some .ensures tt);
       after =
           view-is _ _ _ _ (l .opening) (s .tick) _ _ _ _ (c .take .ensures .rest) (c .take .ensures .mark)
           (misses-set (l .rows) (r .«class») s row is (k .short)) (omega (arith, releases-sum (l .rows) (r .«class») s row is (k .short)))
           ∙ next-is m v (v .coming) r s (c .in-Continue-reply .ensures tt) (c .in-Some .ensures tt);
       same = refl;
-      timely =
-          record {
-            asked = omega (arith, k .up .rises);
-            after = omega (arith, k .up .rises);
-            within = k .up .within;
-            known = omega (arith, k .known);
-            few = omega (arith, k .few-misses);
-          };
+      timely = timely l r s (c .moved .result) k (c .moved .ensures);
       refused = λ e z. let y : _≡_ {A = ℕ} 0 1 = cc in absurd (omega arith);
     }

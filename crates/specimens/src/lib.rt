@@ -1,0 +1,3 @@
+// Worked examples: what the whole job prints, with values worked by hand from the rules.
+#[cfg(test)]
+mod jobs;
