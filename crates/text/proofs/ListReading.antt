@@ -15,7 +15,7 @@ use Rattle.text.specs.Files.{readRows, rowCount}
 use Rattle.text.specs.Lists.{replyRead, lastAsked, onto, listStep, listAnswer, listRead, over}
 use Rattle.text.proofs.FileReading.{ReadTo, read-none, read-more, read-stops, read-all, file-whole, file-faulty}
 
-last-push : (a : ℕ) (rs : List (Reply ℕ)) (r : Reply ℕ) → lastAsked a (rs ++ r ∷ []) ≡ r .asked
+pub last-push : (a : ℕ) (rs : List (Reply ℕ)) (r : Reply ℕ) → lastAsked a (rs ++ r ∷ []) ≡ r .asked
 last-push a [] r = refl
 last-push a (q ∷ rs) r = last-push (q .asked) rs r
 

@@ -5,6 +5,7 @@ pub mod field;
 mod file;
 pub mod layout;
 pub mod list;
+pub mod list_writing;
 pub mod pair;
 pub mod row;
 pub mod schedule;

@@ -2,6 +2,7 @@
 ghost use mathlib.Core.Path.{_≡_};
 ghost use Prim.Native.Nat.{ℕ};
 ghost use lib.ListN.{length};
+ghost use Rattle.text.specs.ListWriting.{ListExact};
 ghost use Rattle.text.specs.Lists.{replyRead, listAnswer, listRead, over};
 use super::fault::FileFault;
 use super::fault::FileFromRow;
@@ -35,6 +36,7 @@ fn read_reply(row: &[u8], last: u32) -> Result<Reply<u32>, RowFault>
 pub fn read_list(bytes: &[u8], out: &mut [Reply<u32>]) -> Result<usize, FileFault>
     ensures value { λ r. ⌜ r ≡ listAnswer (now (bytes .entry)) (length (now (out .entry))) ⌝ }
     ensures after { λ _. ⌜ now (out .exit) ≡ over (listRead (now (bytes .entry)) (length (now (out .entry)))) (now (out .entry)) ⌝ }
+    ensures exact { λ r. ⌜ ListExact (now (bytes .entry)) (length (now (out .entry))) r ⌝ }
 {
     let width = LIST_ROW.bytes;
     let rows = count_rows(bytes.len(), width, MOST_REPLIES.min(out.len()))?;

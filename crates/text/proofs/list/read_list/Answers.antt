@@ -10,6 +10,7 @@ use Rattle.text.specs.Lists.{replyRead}
 use Rattle.text.proofs.Layers.{numbered-ok, numbered-err}
 use Rattle.text.proofs.FileReading.{row-part}
 use Rattle.text.proofs.ListReading.{list-none, list-more, list-whole, list-faulty}
+use Rattle.text.proofs.ListFiles.{list-exact}
 use Rattle.text.proofs.list.read_list.Needs as need
 
 pub loop-i-holds : need.loop-i-holds
@@ -30,11 +31,12 @@ returns-in-Break-reply c =
     let within = c .in-Continue-rows .ensures tt .within in
     let size = c .in-Continue-rows .ensures tt .value ∙ ap (λ m. rowCount 35 m (length (c .args .bytes .now))) (c .min .ensures) in
     let a = list-faulty (c .args .bytes .now) (c .in-Continue-rows .rows) (c .args .out .now) (c .loop-i .out) (c .loop-i .i) (c .loop-i .last) (c .loop-i .inv) (length (c .args .out .now)) size (omega arith) (q .0) (c .loop-i-test .taken) read in
-    record { value = p .1 ∙ (ap Err (p .2) ∙ (ap (λ f. Err (Row f)) (q .2) ∙ a .0)); after = a .1 }
+    let r = p .1 ∙ (ap Err (p .2) ∙ (ap (λ f. Err (Row f)) (q .2) ∙ a .0)) in
+    record { value = r; after = a .1; exact = list-exact (c .args .bytes .now) (length (c .args .out .now)) _ r }
 
 pub returns : need.returns
 returns c =
     let within = c .in-Continue-rows .ensures tt .within in
     let size = c .in-Continue-rows .ensures tt .value ∙ ap (λ m. rowCount 35 m (length (c .args .bytes .now))) (c .min .ensures) in
     let a = list-whole (c .args .bytes .now) (c .in-Continue-rows .rows) (c .args .out .now) (c .loop-i .out) (c .loop-i .i) (c .loop-i .last) (c .loop-i .inv) (length (c .args .out .now)) size (omega arith) (c .loop-i-test .left) in
-    record { value = a .0; after = a .1 }
+    record { value = a .0; after = a .1; exact = list-exact (c .args .bytes .now) (length (c .args .out .now)) _ (a .0) }
