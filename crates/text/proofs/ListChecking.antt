@@ -23,8 +23,8 @@ use Rattle.text.specs.declared.fault.FileFault.{FileFault}
 use Rattle.text.specs.declared.fault.FileFault.the-variants.{Row, Size}
 use Rattle.text.specs.Columns.{listRow}
 use Rattle.text.specs.Rows.{fits}
-use Rattle.text.specs.Lists.{lastAsked}
-use Rattle.text.specs.ListWriting.{numbersOf, unlawful, judgedBy, checkAnswer}
+use Rattle.text.specs.Lists.{numbersOf, lastAsked}
+use Rattle.text.specs.ListWriting.{unlawful, judgedBy, checkAnswer}
 use Rattle.text.proofs.Fitting.{fits-within}
 use Rattle.text.proofs.ListReading.{last-push}
 use Rattle.text.proofs.ListFiles.{ListFits}
@@ -57,8 +57,9 @@ module _ (rs : List (Reply ℕ)) (i last : ℕ) (inv : unlawful (i + 1) last (dr
 pub checked : (rs : List (Reply ℕ)) (u : Unit {0}) → Ok u ≡ checkAnswer rs → (length rs ≤ 50000) × (unlawful 1 0 rs ≡ None)
 checked rs u e =
     elim (cases-bool (leb (length rs) 50000)) [
-        inl t ↦ let c : checkAnswer rs ≡ judgedBy (unlawful 1 0 rs) = rw (t, checkAnswer) in (leb-true (length rs) 50000 t, none (unlawful 1 0 rs) (e ∙ c))
-      | inr t ↦ let c : checkAnswer rs ≡ Err Size = rw (t, checkAnswer) in let z : _≡_ {A = ℕ} 0 1 = cc in absurd (omega arith) ]
+      | inl t ↦ let c : checkAnswer rs ≡ judgedBy (unlawful 1 0 rs) = rw (t, checkAnswer) in (leb-true (length rs) 50000 t, none (unlawful 1 0 rs) (e ∙ c))
+      | inr t ↦ let c : checkAnswer rs ≡ Err Size = rw (t, checkAnswer) in let z : _≡_ {A = ℕ} 0 1 = cc in absurd (omega arith)
+    ]
   where
     none : (o : Option (Numbered RowFault)) → Ok u ≡ judgedBy o → o ≡ None
     none None h = refl
@@ -67,8 +68,9 @@ checked rs u e =
 head-passed : (k last : ℕ) (r : Reply ℕ) (rs : List (Reply ℕ)) → unlawful k last (r ∷ rs) ≡ None → (follows last r ≡ true) × (unlawful (k + 1) (r .asked) rs ≡ None)
 head-passed k last r rs e =
     elim (cases-bool (follows last r)) [
-        inl t ↦ (t, sym (passes k last r rs t) ∙ e)
-      | inr t ↦ let f = fails k last r rs t in let z : _≡_ {A = ℕ} 0 1 = cc in absurd (omega arith) ]
+      | inl t ↦ (t, sym (passes k last r rs t) ∙ e)
+      | inr t ↦ let f = fails k last r rs t in let z : _≡_ {A = ℕ} 0 1 = cc in absurd (omega arith)
+    ]
 
 -- each of its replies is in range
 pub each : (rs : List (Reply ℕ)) (k last i : ℕ) → unlawful k last rs ≡ None → i < length rs
@@ -82,6 +84,7 @@ pub list-fits : (before rs : List (Reply ℕ)) (k : ℕ) → unlawful k (lastAsk
     → ((i : ℕ) → i < length rs → fits listRow (numbersOf (getD rs i blank)) ≡ true) → ListFits before rs
 list-fits before [] k e w = tt
 list-fits before (r ∷ rs) k e w =
-    let p = head-passed k (lastAsked 0 before) r rs e in
-    ( (p .0, fits-within listRow (numbersOf r) (w 0 (omega arith)))
-    , list-fits (before ++ r ∷ []) rs (k + 1) (ap (λ a. unlawful (k + 1) a rs) (last-push 0 before r) ∙ p .1) (λ i h. w (suc i) (omega arith)) )
+    let p = head-passed k (lastAsked 0 before) r rs e in (
+      (p .0, fits-within listRow (numbersOf r) (w 0 (omega arith))),
+      list-fits (before ++ r ∷ []) rs (k + 1) (ap (λ a. unlawful (k + 1) a rs) (last-push 0 before r) ∙ p .1) (λ i h. w (suc i) (omega arith)),
+    )

@@ -22,8 +22,7 @@ use Rattle.text.specs.declared.fault.RowFault.{RowFault}
 use Rattle.text.specs.declared.fault.FileFault.{FileFault}
 use Rattle.text.specs.declared.fault.FileFault.the-variants.{Row, Size}
 use Rattle.text.specs.Files.{Reading, rowCount, ending, readRows, answerOf, leftOf}
-use Rattle.text.specs.Lists.{lastAsked, listStep, listAnswer, listRead}
-use Rattle.text.specs.ListWriting.{listShown, ListExact}
+use Rattle.text.specs.Lists.{listShown, ListExact, lastAsked, listStep, listAnswer, listRead}
 use Rattle.text.proofs.ListReading.{last-push}
 use Rattle.text.proofs.FileLaws.{putAll, FitAll, file-back, file-only, length-file}
 use Rattle.text.proofs.ListLaws.{listKind}
@@ -54,21 +53,23 @@ count-back n most size e h =
 count-only : (n most size : ℕ) → rowCount 35 most size ≡ Ok n → size ≡ 35 * n
 count-only n most size e =
     elim (cases-bool (eqb (size % 35) 0 && leb (size / 35) most)) [
-        inl t ↦
-            let p = and-parts (eqb (size % 35) 0) (leb (size / 35) most) t in
-            let c : rowCount 35 most size ≡ Ok (size / 35) = rw (t, rowCount) in
-            let same : size / 35 ≡ n = cc in
-            omega (arith, eqb-true (size % 35) 0 (p .0))
-      | inr t ↦ let c : rowCount 35 most size ≡ Err Size = rw (t, rowCount) in let z : _≡_ {A = ℕ} 0 1 = cc in absurd (omega arith) ]
+      | inl t ↦
+          let p = and-parts (eqb (size % 35) 0) (leb (size / 35) most) t in
+          let c : rowCount 35 most size ≡ Ok (size / 35) = rw (t, rowCount) in
+          let same : size / 35 ≡ n = cc in
+          omega (arith, eqb-true (size % 35) 0 (p .0))
+      | inr t ↦ let c : rowCount 35 most size ≡ Err Size = rw (t, rowCount) in let z : _≡_ {A = ℕ} 0 1 = cc in absurd (omega arith)
+    ]
 
 -- the rows of a lawful list read back
 pub list-back : (rs : List (Reply ℕ)) (room : ℕ) → ListFits [] rs → length rs ≤ 50000 → length rs ≤ room
     → (listAnswer (listShown rs) room ≡ Ok (length rs)) × (listRead (listShown rs) room ≡ rs)
 list-back rs room f few fits =
     let c = count-back (length rs) (min 50000 room) (length (listShown rs)) (length-file listStep 35 listKind [] rs f) (omega arith) in
-    let b = file-back listStep 35 listKind 1 [] rs f in
-    ( ap (answerOf listStep 35 [] (listShown rs)) c ∙ ap (λ (x : Reading (List (Reply ℕ))). ending (length rs) (x .fault)) b
-    , ap (leftOf listStep 35 [] (listShown rs) []) c ∙ (ap (λ (x : Reading (List (Reply ℕ))). x .left) b ∙ put-all [] rs) )
+    let b = file-back listStep 35 listKind 1 [] rs f in (
+      ap (answerOf listStep 35 [] (listShown rs)) c ∙ ap (λ (x : Reading (List (Reply ℕ))). ending (length rs) (x .fault)) b,
+      ap (leftOf listStep 35 [] (listShown rs) []) c ∙ (ap (λ (x : Reading (List (Reply ℕ))). x .left) b ∙ put-all [] rs),
+    )
 
 ending-ok : (n m : ℕ) (o : Option (Numbered RowFault)) → ending n o ≡ Ok m → (o ≡ None) × (n ≡ m)
 ending-ok n m None e = (refl, cc)

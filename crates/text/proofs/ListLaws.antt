@@ -24,8 +24,7 @@ use Rattle.text.specs.declared.fault.FileFault.the-variants.{Row, Size}
 use Rattle.text.specs.Columns.{Shape, shape, listRow}
 use Rattle.text.specs.Rows.{Within, rowRead, rowShown}
 use Rattle.text.specs.Files.{Reading, rowCount, ending, readRows, answerOf, leftOf}
-use Rattle.text.specs.Lists.{replyOf, ordered, replyFrom, replyRead, lastAsked, onto, listStep, listAnswer, listRead}
-use Rattle.text.specs.ListWriting.{numbersOf, replyShown, listShown, ListExact}
+use Rattle.text.specs.Lists.{numbersOf, replyShown, listShown, ListExact, replyOf, ordered, replyFrom, replyRead, lastAsked, onto, listStep, listAnswer, listRead}
 use Rattle.text.proofs.Fitting.{Sound, AllSound}
 use Rattle.text.proofs.RowLaws.{length-row, row-back, row-shown}
 use Rattle.text.proofs.ListReading.{last-push}
@@ -35,11 +34,16 @@ sound-shape : (w l : ℕ) → 1 ≤ w → w ≤ 19 → l < 10 ^ w → Sound (sha
 sound-shape w l a b c = record { some = a; narrow = b; holds = c }
 
 pub list-sound : AllSound listRow
-list-sound =
-    ( sound-shape 10 1000000000 (omega arith) (omega arith) (lit< tt)
-    , ( sound-shape 2 7 (omega arith) (omega arith) (lit< tt)
-    , ( sound-shape 11 1000000000 (omega arith) (omega arith) (lit< tt)
-    , ( sound-shape 11 4294967295 (omega arith) (omega arith) (lit< tt), tt ) ) ) )
+list-sound = (
+  sound-shape 10 1000000000 (omega arith) (omega arith) (lit< tt),
+  (
+    sound-shape 2 7 (omega arith) (omega arith) (lit< tt),
+    (
+      sound-shape 11 1000000000 (omega arith) (omega arith) (lit< tt),
+      (sound-shape 11 4294967295 (omega arith) (omega arith) (lit< tt), tt),
+    ),
+  ),
+)
 
 -- a reply that may follow the replies before it, with a row of its own
 abbrev pub ReplyFits : List (Reply ℕ) → Reply ℕ → Type 0
@@ -66,14 +70,16 @@ numbers-back (a ∷ b ∷ c ∷ d ∷ e ∷ vs) w = absurd (w .1 .1 .1 .1)
 ordered-so : (last : ℕ) (q r : Reply ℕ) → ordered last q ≡ Ok r → (q ≡ r) × (last ≤ q .asked) × (q .asked ≤ q .ready)
 ordered-so last q r e =
     elim (cases-bool (leb last (q .asked) && leb (q .asked) (q .ready))) [
-        inl t ↦
-            let p = and-parts (leb last (q .asked)) (leb (q .asked) (q .ready)) t in
-            let o : ordered last q ≡ Ok q = rw (t, ordered) in
-            (same (sym o ∙ e), leb-true last (q .asked) (p .0), leb-true (q .asked) (q .ready) (p .1))
-      | inr t ↦ let o : ordered last q ≡ Err Order = rw (t, ordered) in absurd (never (sym o ∙ e)) ]
+      | inl t ↦
+          let p = and-parts (leb last (q .asked)) (leb (q .asked) (q .ready)) t in
+          let o : ordered last q ≡ Ok q = rw (t, ordered) in
+          (same (sym o ∙ e), leb-true last (q .asked) (p .0), leb-true (q .asked) (q .ready) (p .1))
+      | inr t ↦ let o : ordered last q ≡ Err Order = rw (t, ordered) in absurd (never (sym o ∙ e))
+    ]
   where
     same : {a b : Reply ℕ} → _≡_ {A = Result (Reply ℕ) RowFault} (Ok a) (Ok b) → a ≡ b
     same p = cc
+
     never : {a : Reply ℕ} {f : RowFault} → _≡_ {A = Result (Reply ℕ) RowFault} (Err f) (Ok a) → ⊥
     never p = let z : _≡_ {A = ℕ} 0 1 = cc in omega arith
 
@@ -108,9 +114,10 @@ reply-only rs row t e =
 
 abbrev pub listKind : Kind (List (Reply ℕ)) (Reply ℕ) listStep 35
 listKind = record {
-    show = replyShown;
-    put = λ rs r. rs ++ r ∷ [];
-    Fits = ReplyFits;
-    long = λ rs r f. length-row listRow (numbersOf r) list-sound (f .1);
-    back = reply-back;
-    only = reply-only }
+  show = replyShown;
+  put = λ rs r. rs ++ r ∷ [];
+  Fits = ReplyFits;
+  long = λ rs r f. length-row listRow (numbersOf r) list-sound (f .1);
+  back = reply-back;
+  only = reply-only;
+}

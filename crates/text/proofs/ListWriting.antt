@@ -18,8 +18,8 @@ use Rattle.text.specs.declared.fault.ListFault.{ListFault}
 use Rattle.text.specs.declared.fault.ListFault.the-variants.{Room}
 use Rattle.text.specs.Columns.{listRow}
 use Rattle.text.specs.Rows.{fits}
-use Rattle.text.specs.Lists.{listAnswer, listRead, over}
-use Rattle.text.specs.ListWriting.{numbersOf, replyShown, listShown, checkAnswer, inRoom, writeAnswer}
+use Rattle.text.specs.Lists.{numbersOf, replyShown, listShown, listAnswer, listRead, over}
+use Rattle.text.specs.ListWriting.{checkAnswer, inRoom, writeAnswer}
 use Rattle.text.proofs.RowWriting.{grow, part-written}
 use Rattle.text.proofs.ListFiles.{list-back, list-only}
 use Rattle.text.proofs.ListChecking.{blank, checked, list-fits}
@@ -38,12 +38,13 @@ pub rows-more : (rs : List (Reply ℕ)) (old out row : List ℕ) (i : ℕ) → i
 rows-more rs old out row i h l e small st =
     let m : 35 * i + 35 ≡ 35 * (i + 1) = omega arith in
     let more : listShown (take i rs) ++ row ≡ listShown (take (i + 1) rs) =
-        ap (λ t. listShown (take i rs) ++ t) e ∙ (joined-more replyShown [] (take i rs) (getD rs i blank) ∙ ap listShown (sym (take-more rs i blank h))) in
+    ap (λ t. listShown (take i rs) ++ t) e ∙ (joined-more replyShown [] (take i rs) (getD rs i blank) ∙ ap listShown (sym (take-more rs i blank h))) in
     record {
       is = part-written out row (35 * i) 35 ∙ (grow out old (listShown (take i rs)) row (35 * i) (35 * i + 35) (st .is) (st .long) (omega arith)
           ∙ (ap (λ t. t ++ drop (35 * i + 35) old) more ∙ ap (λ n. listShown (take (i + 1) rs) ++ drop n old) m));
       long = sym (ap length more) ∙ (length-append (listShown (take i rs)) row ∙ omega (arith, st .long));
-      within = below-more _ _ (st .within) small }
+      within = below-more _ _ (st .within) small;
+    }
 
 module _ (rs : List (Reply ℕ)) (old out : List ℕ) (i : ℕ) (h : i ≡ length rs) (st : RowsWritten rs old out i) where
   all : take i rs ≡ rs
@@ -64,9 +65,10 @@ module _ (rs : List (Reply ℕ)) (old out : List ℕ) (i : ℕ) (h : i ≡ lengt
   rows-back u ok =
       let t : take (35 * length rs) out ≡ listShown rs = ap (take (35 * length rs)) rows-all ∙ take-at (listShown rs) (drop (length (listShown rs)) old) (35 * length rs) long in
       let c = checked rs u ok in
-      let f = list-fits [] rs 1 (c .1) (λ k l. st .within k (omega arith)) in
-      ( λ room fit. let b = list-back rs room f (c .0) fit in (ap (λ x. listAnswer x room) t ∙ b .0, ap (λ x. listRead x room) t ∙ b .1)
-      , λ bytes room m e is. list-only bytes room m e .0 ∙ (ap listShown is ∙ sym t) )
+      let f = list-fits [] rs 1 (c .1) (λ k l. st .within k (omega arith)) in (
+        λ room fit. let b = list-back rs room f (c .0) fit in (ap (λ x. listAnswer x room) t ∙ b .0, ap (λ x. listRead x room) t ∙ b .1),
+        λ bytes room m e is. list-only bytes room m e .0 ∙ (ap listShown is ∙ sym t),
+      )
 
 -- the answer where the list has room
 pub wrote : (rs : List (Reply ℕ)) (room : ℕ) (u : Unit {0}) → Ok u ≡ checkAnswer rs → 35 * length rs ≤ room → Ok (35 * length rs) ≡ writeAnswer rs room

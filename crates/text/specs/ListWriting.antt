@@ -1,6 +1,4 @@
 -- Writing list files. Nothing is assumed.
---   numbersOf     the numbers of a reply's row: asked, class, ready, word
---   listShown     the rows of the replies, one after another
 --   checkAnswer   a list may be written where it is lawful and has at most 50,000 replies; else the fault
 --   writeAnswer   the bytes written, or the fault: the list is judged before the room
 --   ListWritten   what a writing leaves
@@ -11,13 +9,12 @@ use mathlib.Core.List.{List, [], _∷_}
 use Prim.Native.Nat.{ℕ, _+_, _*_, _≤_}
 use lib.Dec.{leb}
 use lib.ListN.{length, take}
-use Rattle.std.specs.Joined.{joined}
 use Rattle.std.specs.declared.option.Option.{Option}
 use Rattle.std.specs.declared.option.Option.the-variants.{None, Some}
 use Rattle.std.specs.declared.result.Result.{Result}
 use Rattle.std.specs.declared.result.Result.the-variants.{Ok, Err}
 use Rattle.source.specs.declared.reply.Reply.{Reply}
-use Rattle.source.specs.Replies.{Lawful, follows}
+use Rattle.source.specs.Replies.{follows}
 use Rattle.text.specs.declared.fault.Numbered.{Numbered}
 use Rattle.text.specs.declared.fault.RowFault.{RowFault}
 use Rattle.text.specs.declared.fault.RowFault.the-variants.{Order}
@@ -25,18 +22,7 @@ use Rattle.text.specs.declared.fault.FileFault.{FileFault}
 use Rattle.text.specs.declared.fault.FileFault.the-variants.{Row, Size}
 use Rattle.text.specs.declared.fault.ListFault.{ListFault}
 use Rattle.text.specs.declared.fault.ListFault.the-variants.{File, Room}
-use Rattle.text.specs.Columns.{listRow}
-use Rattle.text.specs.Rows.{rowShown}
-use Rattle.text.specs.Lists.{listAnswer, listRead, over}
-
-abbrev pub numbersOf : Reply ℕ → List ℕ
-numbersOf r = r .asked ∷ r .«class» ∷ r .ready ∷ r .body ∷ []
-
-abbrev pub replyShown : Reply ℕ → List ℕ
-replyShown r = rowShown listRow (numbersOf r)
-
-abbrev pub listShown : List (Reply ℕ) → List ℕ
-listShown rs = joined replyShown rs
+use Rattle.text.specs.Lists.{listShown, listAnswer, listRead, over}
 
 -- the first reply that may not stand where it stands; the first of the list is row k
 abbrev pub unlawful : ℕ → ℕ → List (Reply ℕ) → Option (Numbered RowFault)
@@ -68,8 +54,3 @@ ReadsBack rs new (Ok n) =
     ((room : ℕ) → length rs ≤ room → (listAnswer (take n new) room ≡ Ok (length rs)) × (listRead (take n new) room ≡ rs))
     × ((bytes : List ℕ) (room m : ℕ) → listAnswer bytes room ≡ Ok m → listRead bytes room ≡ rs → bytes ≡ take n new)
 ReadsBack rs new (Err f) = Unit {0}
-
--- a list that reads well is lawful, and the file is its rows
-abbrev pub ListExact : List ℕ → ℕ → Result ℕ FileFault → Type 0
-ListExact bytes room (Ok n) = (bytes ≡ listShown (listRead bytes room)) × Lawful (listRead bytes room) × (length (listRead bytes room) ≡ n)
-ListExact bytes room (Err f) = Unit {0}

@@ -5,7 +5,8 @@ pub mod field;
 mod file;
 pub mod layout;
 pub mod list;
-pub mod list_writing;
 pub mod pair;
 pub mod row;
 pub mod schedule;
+#[cfg(test)]
+mod tests;

@@ -1,11 +1,17 @@
 // List files: a reply to a row.
 ghost use mathlib.Core.Path.{_≡_};
-ghost use Prim.Native.Nat.{ℕ};
+ghost use Prim.Native.Nat.{ℕ, _≤_};
 ghost use lib.ListN.{length};
-ghost use Rattle.text.specs.ListWriting.{ListExact};
-ghost use Rattle.text.specs.Lists.{replyRead, listAnswer, listRead, over};
+ghost use Rattle.text.specs.Lists.{ListExact, replyRead, listAnswer, listRead, over, numbersOf, replyShown};
+ghost use mathlib.Core.Bool.{true};
+ghost use Rattle.text.specs.Columns.{listRow};
+ghost use Rattle.text.specs.Rows.{fits};
+ghost use Rattle.text.specs.ListWriting.{checkAnswer, writeAnswer, ListWritten, ReadsBack};
 use super::fault::FileFault;
 use super::fault::FileFromRow;
+use super::fault::ListFault;
+use super::fault::ListFromFile;
+use super::fault::Numbered;
 use super::fault::RowFault;
 use super::fault::at_number;
 use super::file::count_rows;
@@ -48,4 +54,64 @@ pub fn read_list(bytes: &[u8], out: &mut [Reply<u32>]) -> Result<usize, FileFaul
         out[i] = reply;
     }
     Ok(rows)
+}
+
+// Whether the replies are a lawful list of at most 50,000.
+fn check_list(records: &[Reply<u32>]) -> Result<(), FileFault>
+    ensures { λ r. ⌜ r ≡ checkAnswer (now (records .entry)) ⌝ }
+{
+    if records.len() > MOST_REPLIES {
+        return Err(FileFault::Size);
+    }
+    let mut last = 0;
+    for i in 0..records.len() {
+        let reply = records[i];
+        if !reply.follows(last) {
+            return Err(FileFault::Row(Numbered {
+                number: i as u32 + 1,
+                fault: RowFault::Order,
+            }));
+        }
+        last = reply.asked;
+    }
+    Ok(())
+}
+
+// Writes the row of a reply that is in range.
+fn write_reply(reply: Reply<u32>, row: &mut [u8])
+    requires room { ⌜ length (now row) ≡ 35 ⌝ }
+    requires asked { ⌜ reply .asked ≤ 1000000000 ⌝ }
+    requires kind { ⌜ reply .«class» ≤ 7 ⌝ }
+    requires ready { ⌜ reply .ready ≤ 1000000000 ⌝ }
+    ensures after { λ _. ⌜ now (row .exit) ≡ replyShown reply ⌝ }
+    ensures within { λ _. ⌜ fits listRow (numbersOf reply) ≡ true ⌝ }
+{
+    let _ = LIST_ROW.write(
+        &[
+            reply.asked as u64,
+            reply.class as u64,
+            reply.ready as u64,
+            reply.body as u64,
+        ],
+        row,
+    );
+}
+
+// Writes a lawful list to the front of `out`, and answers how many bytes it has. Refused, it writes nothing.
+pub fn write_list(records: &[Reply<u32>], out: &mut [u8]) -> Result<usize, ListFault>
+    ensures value { λ r. ⌜ r ≡ writeAnswer (now (records .entry)) (length (now (out .entry))) ⌝ }
+    ensures after { λ r. ⌜ ListWritten (now (records .entry)) (now (out .entry)) (now (out .exit)) r ⌝ }
+    ensures back { λ r. ⌜ ReadsBack (now (records .entry)) (now (out .exit)) r ⌝ }
+{
+    check_list(records)?;
+    let width = LIST_ROW.bytes;
+    let size = width * records.len();
+    if size > out.len() {
+        return Err(ListFault::Room);
+    }
+    for i in 0..records.len() {
+        let start = width * i;
+        write_reply(records[i], &mut out[start..start + width]);
+    }
+    Ok(size)
 }

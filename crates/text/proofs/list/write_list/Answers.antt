@@ -5,7 +5,7 @@ use lib.ListN.{length}
 use Rattle.text.proofs.RowWriting.{part-length}
 use Rattle.text.proofs.ListChecking.{checked, each}
 use Rattle.text.proofs.ListWriting.{rows-none, rows-more, rows-all, rows-back, wrote}
-use Rattle.text.proofs.list_writing.write_list.Needs as need
+use Rattle.text.proofs.list.write_list.Needs as need
 
 pub write-reply-requires : need.write-reply-requires
 write-reply-requires c κs =
@@ -26,4 +26,5 @@ returns c =
     record {
       value = wrote (c .args .records .now) (length (c .args .out .now)) _ (c .in-Continue-check-list .ensures tt) (omega arith);
       after = rows-all (c .args .records .now) (c .args .out .now) (c .loop-i .out) (c .loop-i .i) (omega arith) (c .loop-i .inv);
-      back = rows-back (c .args .records .now) (c .args .out .now) (c .loop-i .out) (c .loop-i .i) (omega arith) (c .loop-i .inv) _ (c .in-Continue-check-list .ensures tt) }
+      back = rows-back (c .args .records .now) (c .args .out .now) (c .loop-i .out) (c .loop-i .i) (omega arith) (c .loop-i .inv) _ (c .in-Continue-check-list .ensures tt);
+    }

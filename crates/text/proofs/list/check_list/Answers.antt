@@ -1,7 +1,7 @@
 use mathlib.Core.Path.{sym}
 use native.Mathlib.Omega.{arith}
 use Rattle.text.proofs.ListChecking.{check-more, check-stops, check-all}
-use Rattle.text.proofs.list_writing.check_list.Needs as need
+use Rattle.text.proofs.list.check_list.Needs as need
 
 pub returns-then-not-follows : need.returns-then-not-follows
 returns-then-not-follows c = check-stops (c .args .records .now) (c .loop-i .i) (c .loop-i .last) (c .loop-i .inv) (omega arith) (omega arith) (sym (c .if-not-follows .ensures tt))
