@@ -1,11 +1,13 @@
 // List files: a reply to a row.
-ghost use mathlib.Core.Path.{_≡_};
-ghost use Prim.Native.Nat.{ℕ, _≤_};
-ghost use lib.ListN.{length};
-ghost use Rattle.text.specs.Lists.{ListExact, replyRead, listAnswer, listRead, over, numbersOf, replyShown};
 ghost use mathlib.Core.Bool.{true};
+ghost use mathlib.Core.List.{[]};
+ghost use mathlib.Core.Path.{_≡_};
+ghost use Prim.Native.Nat.{ℕ, _*_, _≤_};
+ghost use lib.ListN.{length};
 ghost use Rattle.text.specs.Columns.{listRow};
 ghost use Rattle.text.specs.Rows.{fits};
+ghost use Rattle.text.specs.Files.{ending, readRows};
+ghost use Rattle.text.specs.Lists.{numbersOf, replyShown, replyRead, listStep, listAnswer, listRead, ListExact, over};
 ghost use Rattle.text.specs.ListWriting.{checkAnswer, writeAnswer, ListWritten, ReadsBack};
 use super::fault::FileFault;
 use super::fault::FileFromRow;
@@ -37,15 +39,15 @@ fn read_reply(row: &[u8], last: u32) -> Result<Reply<u32>, RowFault>
     })
 }
 
-// Reads a list into the front of `out`, and answers how many replies it has. Refused for its size, it writes nothing;
-// refused at a row, it leaves the replies before that row.
-pub fn read_list(bytes: &[u8], out: &mut [Reply<u32>]) -> Result<usize, FileFault>
-    ensures value { λ r. ⌜ r ≡ listAnswer (now (bytes .entry)) (length (now (out .entry))) ⌝ }
-    ensures after { λ _. ⌜ now (out .exit) ≡ over (listRead (now (bytes .entry)) (length (now (out .entry)))) (now (out .entry)) ⌝ }
-    ensures exact { λ r. ⌜ ListExact (now (bytes .entry)) (length (now (out .entry))) r ⌝ }
+// Reads so many rows into the front of `out`, up to the first that is refused.
+fn read_rows(bytes: &[u8], rows: usize, out: &mut [Reply<u32>]) -> Result<usize, FileFault>
+    requires whole { ⌜ 35 * rows ≡ length (now bytes) ⌝ }
+    requires few { ⌜ rows ≤ 50000 ⌝ }
+    requires room { ⌜ rows ≤ length (now out) ⌝ }
+    ensures value { λ r. ⌜ r ≡ ending rows (readRows listStep 35 rows (now (bytes .entry)) 1 [] .fault) ⌝ }
+    ensures after { λ _. ⌜ now (out .exit) ≡ over (readRows listStep 35 rows (now (bytes .entry)) 1 [] .left) (now (out .entry)) ⌝ }
 {
     let width = LIST_ROW.bytes;
-    let rows = count_rows(bytes.len(), width, MOST_REPLIES.min(out.len()))?;
     let mut last = 0;
     for i in 0..rows {
         let start = width * i;
@@ -54,6 +56,18 @@ pub fn read_list(bytes: &[u8], out: &mut [Reply<u32>]) -> Result<usize, FileFaul
         out[i] = reply;
     }
     Ok(rows)
+}
+
+// Reads a list into the front of `out`, and answers how many replies it has. Refused for its size, it writes nothing;
+// refused at a row, it leaves the replies before that row.
+pub fn read_list(bytes: &[u8], out: &mut [Reply<u32>]) -> Result<usize, FileFault>
+    ensures value { λ r. ⌜ r ≡ listAnswer (now (bytes .entry)) (length (now (out .entry))) ⌝ }
+    ensures after { λ _. ⌜ now (out .exit) ≡ over (listRead (now (bytes .entry)) (length (now (out .entry)))) (now (out .entry)) ⌝ }
+    ensures exact { λ r. ⌜ ListExact (now (bytes .entry)) (length (now (out .entry))) r ⌝ }
+{
+    let most = MOST_REPLIES.min(out.len());
+    let rows = count_rows(bytes.len(), LIST_ROW.bytes, most)?;
+    read_rows(bytes, rows, out)
 }
 
 // Whether the replies are a lawful list of at most 50,000.
