@@ -69,27 +69,15 @@ module _ {S : Type 0} (step : S → List ℕ → Result S RowFault) (width : ℕ
         let same : g ≡ f = cc in
         (read-stops i s f h (sym (ap (step s) (row-part bytes (width * i) width)) ∙ (refused .0 ∙ ap Err same)) inv, refused .1)
 
-  -- from a reading to the call's promise
-  module _ (most : ℕ) (old s : S) (size : Ok rows ≡ rowCount width most (length bytes)) where
-    pub file-whole : readRows step width rows bytes 1 start ≡ record { left = s; fault = None }
-        → (Ok rows ≡ fileAnswer step width start bytes most) × (s ≡ fileRead step width start bytes most old)
-    file-whole e = (
-      sym (ap (λ r. ending rows (r .fault)) e) ∙ ap (answerOf step width start bytes) size,
-      sym (ap (λ r. r .left) e) ∙ ap (leftOf step width start bytes old) size,
-    )
+  -- from a reading of the rows to the promise of the file
+  module _ (most : ℕ) (old : S) (size : Ok rows ≡ rowCount width most (length bytes)) where
+    pub file-answer : ending rows (readRows step width rows bytes 1 start .fault) ≡ fileAnswer step width start bytes most
+    file-answer = ap (answerOf step width start bytes) size
 
-    pub file-faulty : (f : Numbered RowFault) → readRows step width rows bytes 1 start ≡ record { left = s; fault = Some f }
-        → (Err (Row f) ≡ fileAnswer step width start bytes most) × (s ≡ fileRead step width start bytes most old)
-    file-faulty f e = (
-      sym (ap (λ r. ending rows (r .fault)) e) ∙ ap (answerOf step width start bytes) size,
-      sym (ap (λ r. r .left) e) ∙ ap (leftOf step width start bytes old) size,
-    )
+    pub file-left : readRows step width rows bytes 1 start .left ≡ fileRead step width start bytes most old
+    file-left = ap (leftOf step width start bytes old) size
 
--- a file of a wrong size
-pub file-unsized : {S : Type 0} (step : S → List ℕ → Result S RowFault) (width : ℕ) (start : S) (bytes : List ℕ) (most : ℕ) (old : S) (f : FileFault)
-    → Err f ≡ rowCount width most (length bytes) → (Err f ≡ fileAnswer step width start bytes most) × (old ≡ fileRead step width start bytes most old)
-file-unsized step width start bytes most old f e = (ap (answerOf step width start bytes) e, ap (leftOf step width start bytes old) e)
-
--- an answer that is not the refusal of the size
-pub row-not-size : (r : Result ℕ FileFault) (f : Numbered RowFault) → r ≡ Err (Row f) → r ≡ Err Size → ⊥
-row-not-size r f e k = let z : _≡_ {A = ℕ} 0 1 = cc in omega arith
+-- the answer of the rows is never the refusal of the size
+pub rows-not-size : (n : ℕ) (o : Option (Numbered RowFault)) (r : Result ℕ FileFault) → r ≡ ending n o → r ≡ Err Size → ⊥
+rows-not-size n None r e k = let z : _≡_ {A = ℕ} 0 1 = cc in omega arith
+rows-not-size n (Some f) r e k = let z : _≡_ {A = ℕ} 0 1 = cc in omega arith

@@ -10,3 +10,8 @@ pub mod Layers
 pub mod FileReading
 pub mod ListReading
 pub mod Pairing
+pub mod FileLaws
+pub mod ListLaws
+pub mod ListFiles
+pub mod ListChecking
+pub mod ListWriting

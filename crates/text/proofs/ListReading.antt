@@ -1,7 +1,7 @@
 -- Reading a list into a buffer: the replies read stand at its front, and the rest is as it was.
 use mathlib.Core.Path.{_≡_, refl, sym, _∙_, ap}
 use mathlib.Core.List.{List, [], _∷_, _++_}
-use Prim.Native.Nat.{ℕ, _+_, _*_, _<_, _≤_, min}
+use Prim.Native.Nat.{ℕ, _+_, _*_, _<_, _≤_}
 use native.Mathlib.Omega.{arith}
 use lib.ListN.{length, take, drop, set}
 use Rattle.std.specs.declared.option.Option.the-variants.{None, Some}
@@ -11,11 +11,11 @@ use Rattle.std.proofs.shelf.Lists.{drop-drop, drop-set-lt, length-take-le, take
 use Rattle.source.specs.declared.reply.Reply.{Reply}
 use Rattle.text.specs.declared.fault.RowFault.{RowFault}
 use Rattle.text.specs.declared.fault.FileFault.the-variants.{Row}
-use Rattle.text.specs.Files.{readRows, rowCount}
-use Rattle.text.specs.Lists.{replyRead, lastAsked, onto, listStep, listAnswer, listRead, over}
-use Rattle.text.proofs.FileReading.{ReadTo, read-none, read-more, read-stops, read-all, file-whole, file-faulty}
+use Rattle.text.specs.Files.{Reading, ending, readRows}
+use Rattle.text.specs.Lists.{replyRead, lastAsked, onto, listStep, over}
+use Rattle.text.proofs.FileReading.{ReadTo, read-none, read-more, read-stops, read-all}
 
-last-push : (a : ℕ) (rs : List (Reply ℕ)) (r : Reply ℕ) → lastAsked a (rs ++ r ∷ []) ≡ r .asked
+pub last-push : (a : ℕ) (rs : List (Reply ℕ)) (r : Reply ℕ) → lastAsked a (rs ++ r ∷ []) ≡ r .asked
 last-push a [] r = refl
 last-push a (q ∷ rs) r = last-push (q .asked) rs r
 
@@ -47,16 +47,16 @@ module _ (bytes : List ℕ) (rows : ℕ) (old out : List (Reply ℕ)) (i last : 
       let n : length rs ≡ i = sym (ap length e) ∙ length-take-le i out room in
       sym (take-append-drop i out) ∙ (ap (λ t. t ++ drop i out) e ∙ (ap (λ t. rs ++ t) (st .kept) ∙ ap (λ m. rs ++ drop m old) (sym n)))
 
-  module _ (room : ℕ) (size : Ok rows ≡ rowCount 35 (min 50000 room) (length bytes)) (fits : i ≤ length out) where
-    pub list-whole : rows ≤ i → (Ok rows ≡ listAnswer bytes room) × (out ≡ over (listRead bytes room) old)
-    list-whole h =
-        let w = file-whole listStep 35 [] bytes rows (min 50000 room) [] (take i out) size (read-all listStep 35 [] bytes rows i (take i out) h (st .read)) in
-        (w .0, settled fits (listRead bytes room) (w .1))
+  pub list-whole : i ≤ length out → rows ≤ i
+      → (Ok rows ≡ ending rows (readRows listStep 35 rows bytes 1 [] .fault)) × (out ≡ over (readRows listStep 35 rows bytes 1 [] .left) old)
+  list-whole fits h =
+      let a = read-all listStep 35 [] bytes rows i (take i out) h (st .read) in
+      (sym (ap (λ (r : Reading (List (Reply ℕ))). ending rows (r .fault)) a), settled fits _ (sym (ap (λ (r : Reading (List (Reply ℕ))). r .left) a)))
 
-    pub list-faulty : (f : RowFault) → i < rows → replyRead last (take 35 (drop (35 * i) bytes)) ≡ Err f
-        → (Err (Row (record { number = i + 1; fault = f })) ≡ listAnswer bytes room) × (out ≡ over (listRead bytes room) old)
-    list-faulty f h e =
-        let s : listStep (take i out) (take 35 (drop (35 * i) bytes)) ≡ Err f =
-        ap (λ a. onto (take i out) (replyRead a (take 35 (drop (35 * i) bytes)))) (sym (st .asked)) ∙ ap (onto (take i out)) e in
-        let w = file-faulty listStep 35 [] bytes rows (min 50000 room) [] (take i out) size (record { number = i + 1; fault = f }) (read-stops listStep 35 [] bytes rows i (take i out) f h s (st .read)) in
-        (w .0, settled fits (listRead bytes room) (w .1))
+  pub list-faulty : (f : RowFault) → i ≤ length out → i < rows → replyRead last (take 35 (drop (35 * i) bytes)) ≡ Err f
+      → (Err (Row (record { number = i + 1; fault = f })) ≡ ending rows (readRows listStep 35 rows bytes 1 [] .fault)) × (out ≡ over (readRows listStep 35 rows bytes 1 [] .left) old)
+  list-faulty f fits h e =
+      let s : listStep (take i out) (take 35 (drop (35 * i) bytes)) ≡ Err f =
+      ap (λ a. onto (take i out) (replyRead a (take 35 (drop (35 * i) bytes)))) (sym (st .asked)) ∙ ap (onto (take i out)) e in
+      let a = read-stops listStep 35 [] bytes rows i (take i out) f h s (st .read) in
+      (sym (ap (λ (r : Reading (List (Reply ℕ))). ending rows (r .fault)) a), settled fits _ (sym (ap (λ (r : Reading (List (Reply ℕ))). r .left) a)))

@@ -5,5 +5,6 @@ pub mod Rows
 pub mod Refusals
 pub mod Files
 pub mod Lists
+pub mod ListWriting
 pub mod Schedules
 pub mod Pairs

@@ -1,23 +1,38 @@
 -- List files: a row is a reply whose body is a word. Nothing is assumed.
---   replyOf      the reply of a row's numbers: asked, class, ready, word
+--   numbersOf    the numbers of a reply's row: asked, class, ready, word
+--   listShown    the rows of replies, one after another
+--   replyOf      the reply of a row's numbers
 --   replyRead    the reply of a row, or the row's fault; its order is judged last
 --   listAnswer   the number of replies in a file, or its first fault
 --   listRead     the replies of a file, up to the first fault
+--   ListExact    what makes a reading right: the file is the rows of a lawful list, which is what was read
 --   over         a list written over the front of another
+use mathlib.Core.Path.{_≡_}
 use mathlib.Core.Bool.{true, false, _&&_}
 use mathlib.Core.List.{List, [], _∷_, _++_}
 use Prim.Native.Nat.{ℕ, min}
 use lib.Dec.{leb}
 use lib.ListN.{length, getD, drop}
+use Rattle.std.specs.Joined.{joined}
 use Rattle.std.specs.declared.result.Result.{Result}
 use Rattle.std.specs.declared.result.Result.the-variants.{Ok, Err}
 use Rattle.source.specs.declared.reply.Reply.{Reply}
+use Rattle.source.specs.Replies.{Lawful}
 use Rattle.text.specs.declared.fault.RowFault.{RowFault}
 use Rattle.text.specs.declared.fault.RowFault.the-variants.{Order}
 use Rattle.text.specs.declared.fault.FileFault.{FileFault}
 use Rattle.text.specs.Columns.{listRow}
-use Rattle.text.specs.Rows.{rowRead}
+use Rattle.text.specs.Rows.{rowShown, rowRead}
 use Rattle.text.specs.Files.{fileAnswer, fileRead}
+
+abbrev pub numbersOf : Reply ℕ → List ℕ
+numbersOf r = r .asked ∷ r .«class» ∷ r .ready ∷ r .body ∷ []
+
+abbrev pub replyShown : Reply ℕ → List ℕ
+replyShown r = rowShown listRow (numbersOf r)
+
+abbrev pub listShown : List (Reply ℕ) → List ℕ
+listShown rs = joined replyShown rs
 
 abbrev pub replyOf : List ℕ → Reply ℕ
 replyOf vs = record { asked = getD vs 0 0; «class» = getD vs 1 0; ready = getD vs 2 0; body = getD vs 3 0 }
@@ -52,6 +67,11 @@ listAnswer bytes room = fileAnswer listStep 35 [] bytes (min 50000 room)
 
 abbrev pub listRead : List ℕ → ℕ → List (Reply ℕ)
 listRead bytes room = fileRead listStep 35 [] bytes (min 50000 room) []
+
+-- a list that reads well is lawful, and the file is its rows
+abbrev pub ListExact : List ℕ → ℕ → Result ℕ FileFault → Type 0
+ListExact bytes room (Ok n) = (bytes ≡ listShown (listRead bytes room)) × Lawful (listRead bytes room) × (length (listRead bytes room) ≡ n)
+ListExact bytes room (Err f) = Unit {0}
 
 module _ {A : Type 0} where
   abbrev pub over : List A → List A → List A

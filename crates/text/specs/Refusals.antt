@@ -3,7 +3,9 @@
 --   1    a field is not in its form          3    a row has no newline at its end      4    a file has a wrong size
 --   2    a field's number passes its limit   5    a row is out of order
 --   8, 9, 10    a row's step is refused for its class, its range or its order
---   refusalOf   the refusal of a file's fault
+--   11   a buffer is too short for a list
+--   refusalOf     the refusal of a file's fault
+--   listRefusal   the refusal of a list that was not written
 use Prim.Native.Nat.{ℕ}
 use Rattle.pace.specs.Refusals.{stepFaultNumber}
 use Rattle.text.specs.declared.field.FieldFault.{FieldFault}
@@ -12,6 +14,8 @@ use Rattle.text.specs.declared.fault.RowFault.{RowFault}
 use Rattle.text.specs.declared.fault.RowFault.the-variants.{Field, Newline, Order, Step}
 use Rattle.text.specs.declared.fault.FileFault.{FileFault}
 use Rattle.text.specs.declared.fault.FileFault.the-variants.{Row, Size}
+use Rattle.text.specs.declared.fault.ListFault.{ListFault}
+use Rattle.text.specs.declared.fault.ListFault.the-variants.{File, Room}
 use Rattle.text.specs.declared.fault.Refusal.{Refusal}
 
 abbrev pub refusal : ℕ → ℕ → ℕ → Refusal
@@ -30,3 +34,7 @@ rowRefusal row (Step f) = refusal (stepFaultNumber f) row 0
 abbrev pub refusalOf : FileFault → Refusal
 refusalOf Size = refusal 4 0 0
 refusalOf (Row f) = rowRefusal (f .number) (f .fault)
+
+abbrev pub listRefusal : ListFault → Refusal
+listRefusal (File f) = refusalOf f
+listRefusal Room = refusal 11 0 0

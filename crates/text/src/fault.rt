@@ -2,9 +2,10 @@
 // part that it was found in.
 ghost use mathlib.Core.Path.{_≡_};
 ghost use Rattle.text.specs.Faults.{numberedAnswer};
-ghost use Rattle.text.specs.Refusals.{refusal, fieldFaultNumber, refusalOf};
+ghost use Rattle.text.specs.Refusals.{refusal, fieldFaultNumber, refusalOf, listRefusal};
 ghost use Rattle.text.specs.declared.fault.RowFault.the-variants.{Field, Step};
 ghost use Rattle.text.specs.declared.fault.FileFault.the-variants.{Row};
+ghost use Rattle.text.specs.declared.fault.ListFault.the-variants.{File};
 use super::field::FieldFault;
 use super::field::FieldFaultDebug;
 use super::field::FieldFaultPartialEq;
@@ -35,6 +36,13 @@ pub enum FileFault {
     Size,
 }
 
+// Why a list was not written: what it is, or a buffer that is too short for it.
+#[derive(Clone, Copy, PartialEq, Eq, Debug)]
+pub enum ListFault {
+    File(FileFault),
+    Room,
+}
+
 pub impl From<Numbered<FieldFault>> for RowFault as RowFromField {
     ghost converts = { λ f r. r ≡ Field f };
 
@@ -56,6 +64,14 @@ pub impl From<Numbered<RowFault>> for FileFault as FileFromRow {
 
     fn from(f: Numbered<RowFault>) -> FileFault {
         FileFault::Row(f)
+    }
+}
+
+pub impl From<FileFault> for ListFault as ListFromFile {
+    ghost converts = { λ f r. r ≡ File f };
+
+    fn from(f: FileFault) -> ListFault {
+        ListFault::File(f)
     }
 }
 
@@ -110,6 +126,18 @@ impl FileFault {
             RowFault::Newline => Refusal::new(3, row.number, 0),
             RowFault::Order => Refusal::new(5, row.number, 0),
             RowFault::Step(step) => Refusal::new(step.number(), row.number, 0),
+        }
+    }
+}
+
+impl ListFault {
+    // The refusal that a fault is printed as.
+    pub fn refusal(&self) -> Refusal
+        ensures { λ r. ⌜ r ≡ listRefusal (now (self .entry)) ⌝ }
+    {
+        match self {
+            ListFault::File(file) => file.refusal(),
+            ListFault::Room => Refusal::new(11, 0, 0),
         }
     }
 }

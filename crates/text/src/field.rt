@@ -28,10 +28,8 @@ pub(crate) fn read_field(bytes: &[u8], limit: u64) -> Result<u64, FieldFault>
             }
             value = value * 10 + (c - b'0') as u64;
             begun = true;
-        } else {
-            if begun || c != b' ' {
-                return Err(FieldFault::Form);
-            }
+        } else if begun || c != b' ' {
+            return Err(FieldFault::Form);
         }
     }
     if !begun {

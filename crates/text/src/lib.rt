@@ -8,3 +8,5 @@ pub mod list;
 pub mod pair;
 pub mod row;
 pub mod schedule;
+#[cfg(test)]
+mod tests;

@@ -1,10 +1,11 @@
 // Schedule files: a step of a pace to a row.
 ghost use mathlib.Core.Path.{_≡_};
-ghost use Prim.Native.Nat.{ℕ};
+ghost use Prim.Native.Nat.{ℕ, _*_, _≤_};
+ghost use lib.ListN.{length};
 ghost use Rattle.std.specs.declared.result.Result.the-variants.{Err};
 ghost use Rattle.text.specs.declared.fault.FileFault.the-variants.{Size};
-ghost use Rattle.pace.specs.Steps.{laddersOf};
-ghost use Rattle.text.specs.Files.{RowTaken};
+ghost use Rattle.pace.specs.Steps.{laddersOf, noSteps};
+ghost use Rattle.text.specs.Files.{RowTaken, ending, readRows};
 ghost use Rattle.text.specs.Schedules.{scheduleStep, scheduleAnswer, scheduleRead};
 use super::fault::FileFault;
 use super::fault::FileFromRow;
@@ -27,6 +28,22 @@ fn read_step(row: &[u8], steps: &mut Steps) -> Result<(), RowFault>
     Ok(())
 }
 
+// Empties the steps, and adds those of so many rows, up to the first that is refused.
+fn read_rows(bytes: &[u8], rows: usize, steps: &mut Steps) -> Result<usize, FileFault>
+    requires whole { ⌜ 17 * rows ≡ length (now bytes) ⌝ }
+    requires few { ⌜ rows ≤ 128 ⌝ }
+    ensures value { λ r. ⌜ r ≡ ending rows (readRows scheduleStep 17 rows (now (bytes .entry)) 1 noSteps .fault) ⌝ }
+    ensures after { λ _. ⌜ laddersOf (now (steps .exit)) ≡ readRows scheduleStep 17 rows (now (bytes .entry)) 1 noSteps .left ⌝ }
+{
+    *steps = Steps::new();
+    let width = SCHEDULE_ROW.bytes;
+    for i in 0..rows {
+        let start = width * i;
+        at_number(i as u32 + 1, read_step(&bytes[start..start + width], steps))?;
+    }
+    Ok(rows)
+}
+
 // Reads a schedule in place of the steps, and answers how many rows it has. Refused for its size, it leaves the steps
 // as they were; refused at a row, it leaves the steps of the rows before that row.
 pub fn read_schedule(bytes: &[u8], steps: &mut Steps) -> Result<usize, FileFault>
@@ -34,12 +51,6 @@ pub fn read_schedule(bytes: &[u8], steps: &mut Steps) -> Result<usize, FileFault
     ensures after { λ _. ⌜ laddersOf (now (steps .exit)) ≡ scheduleRead (laddersOf (now (steps .entry))) (now (bytes .entry)) ⌝ }
     ensures same { λ r. ⌜ (r ≡ Err Size → now (steps .exit) ≡ now (steps .entry)) ⌝ }
 {
-    let width = SCHEDULE_ROW.bytes;
-    let rows = count_rows(bytes.len(), width, MOST_STEPS)?;
-    *steps = Steps::new();
-    for i in 0..rows {
-        let start = width * i;
-        at_number(i as u32 + 1, read_step(&bytes[start..start + width], steps))?;
-    }
-    Ok(rows)
+    let rows = count_rows(bytes.len(), SCHEDULE_ROW.bytes, MOST_STEPS)?;
+    read_rows(bytes, rows, steps)
 }

@@ -45,10 +45,10 @@ returns-then-not-begun c =
 
 pub returns-then-value-limit : need.returns-then-value-limit
 returns-then-value-limit c =
-    let a = past-limit (c .args .bytes .now) (c .args .limit) (c .pre) (c .loop-b .value) (end-turn (c .args .bytes .now) _ (c .loop-b .begun) (c .loop-b .value) (c .loop-b .b-index) (c .loop-b-test .left) (c .loop-b .inv .0) ∙ ap (λ t. scan t (c .loop-b .value) []) (c .if-not-begun .left)) (c .if-value-limit .taken) in
+    let a = past-limit (c .args .bytes .now) (c .args .limit) (c .pre) (c .loop-b .value) (end-turn (c .args .bytes .now) _ (c .loop-b .begun) (c .loop-b .value) (c .loop-b .b-index) (c .loop-b-test .left) (c .loop-b .inv .0) ∙ ap (λ t. scan t (c .loop-b .value) []) (c .if-not-begun .left)) (omega arith) in
     record { value = a .0; exact = a .1 }
 
 pub returns : need.returns
 returns c =
-    let a = in-limit (c .args .bytes .now) (c .args .limit) (c .pre) (c .loop-b .value) (end-turn (c .args .bytes .now) _ (c .loop-b .begun) (c .loop-b .value) (c .loop-b .b-index) (c .loop-b-test .left) (c .loop-b .inv .0) ∙ ap (λ t. scan t (c .loop-b .value) []) (c .if-not-begun .left)) (c .if-value-limit .left) in
+    let a = in-limit (c .args .bytes .now) (c .args .limit) (c .pre) (c .loop-b .value) (end-turn (c .args .bytes .now) _ (c .loop-b .begun) (c .loop-b .value) (c .loop-b .b-index) (c .loop-b-test .left) (c .loop-b .inv .0) ∙ ap (λ t. scan t (c .loop-b .value) []) (c .if-not-begun .left)) (omega arith) in
     record { value = a .0; exact = a .1 }

@@ -1,15 +1,12 @@
-use mathlib.Core.Path.{_≡_, refl, sym, _∙_, ap, subst}
-use mathlib.Core.Bool.{cond}
-use mathlib.Core.List.{_++_}
-use Prim.Native.Nat.{ℕ, _+_, _-_, _/_, _%_, _<_, _≤_, _^_}
+use mathlib.Core.Path.{_≡_, sym, _∙_, subst}
+use Prim.Native.Nat.{_-_, _/_, _%_, _+_, _<_}
 use native.Mathlib.Omega.{arith}
-use lib.Dec.{ltb}
-use lib.ListN.{length, drop, set, length-set}
+use lib.ListN.{length, set, length-set}
 use Rattle.std.specs.Written.{decimal}
 use Rattle.std.proofs.shelf.Decimals.{decimal-some}
 use Rattle.std.proofs.shelf.Tests.{lt-ltb, le-ltb}
 use Rattle.text.specs.Fields.{shown}
-use Rattle.text.proofs.Shows.{lead, column, write-turn, write-last, write-back, write-end, fewer, fewer-back}
+use Rattle.text.proofs.Shows.{lastByte, ShownFrom, shown-begun, shown-more, shown-all}
 use Rattle.text.proofs.field.write_field.Needs as need
 use Rattle.text.proofs.field.write_field.Needs.{then-left-gt0, else-left-gt0}
 
@@ -24,21 +21,21 @@ sub-i c = omega (arith, decimal-some (c .args .value) (omega arith))
 
 pub loop-i-holds : need.loop-i-holds
 loop-i-holds c =
-    let some : 0 < length (decimal (c .args .value)) = decimal-some (c .args .value) (omega arith) in (
-      write-last (c .args .out .now) (length (c .args .out .now) - 1) (c .args .value) (omega arith) (omega arith) (omega arith) ∙ simp length-set,
-      fewer (length (c .args .out .now) - 1) (c .args .value) (omega arith) (λ h. omega arith),
-      simp length-set (omega arith),
-      omega arith,
-    )
+    let some : 0 < length (decimal (c .args .value)) = decimal-some (c .args .value) (omega arith) in
+    let n = length (c .args .out .now) - 1 in
+    let begun = shown-begun (c .args .out .now) n (c .args .value) (omega arith) (omega arith) (omega arith) in
+    ( subst (λ m. ShownFrom (shown m (c .args .value)) (set (c .args .out .now) n (48 + c .args .value % 10)) n (c .args .value / 10)) (sym (length-set (c .args .out .now) n (48 + c .args .value % 10))) begun
+    , simp length-set (omega arith)
+    , omega arith )
 
 pub loop-i-again : need.loop-i-again
 loop-i-again c =
-    let x : c .if-left-gt0 .out ≡ column (c .loop-i .left) = elim (c .if-left-gt0 .came) [ then-left-gt0 w ↦ w .out-is ∙ simp (lt-ltb 0 (c .loop-i .left) (w .if-left-gt0 .taken)) | else-left-gt0 w ↦ w .out-is ∙ simp (le-ltb 0 (c .loop-i .left) (w .if-left-gt0 .left)) ] in (
-      write-back _ (c .loop-i .out) (c .loop-i .i) (c .loop-i .left) (c .if-left-gt0 .out) (omega arith) (omega arith) (omega arith) x (c .loop-i .inv .1) (c .loop-i .inv .0),
-      fewer-back (c .loop-i .i) (c .loop-i .left) (omega arith) (omega arith) (c .loop-i .inv .1),
-      simp length-set (omega arith),
-      omega arith,
-    )
+    let x : c .if-left-gt0 .out ≡ lastByte (c .loop-i .left) = elim (c .if-left-gt0 .came) [
+        then-left-gt0 w ↦ w .out-is ∙ simp (lt-ltb 0 (c .loop-i .left) (w .if-left-gt0 .taken))
+      | else-left-gt0 w ↦ w .out-is ∙ simp (le-ltb 0 (c .loop-i .left) (w .if-left-gt0 .left)) ] in
+    ( shown-more _ (c .loop-i .out) (c .loop-i .i) (c .loop-i .left) (c .if-left-gt0 .out) (omega arith) (omega arith) (omega arith) x (c .loop-i .inv .0)
+    , simp length-set (omega arith)
+    , omega arith )
 
 pub returns : need.returns
-returns c = write-end _ (c .loop-i .out) (c .loop-i .i) (c .loop-i .left) (omega arith) (c .loop-i-test .left) (c .loop-i .inv .1) (c .loop-i .inv .0) ∙ simp length-set
+returns c = shown-all _ (c .loop-i .out) (c .loop-i .i) (c .loop-i .left) (omega arith) (c .loop-i-test .left) (c .loop-i .inv .0) ∙ simp length-set

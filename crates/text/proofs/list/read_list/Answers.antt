@@ -1,40 +1,20 @@
-use mathlib.Core.Path.{_≡_, _∙_, sym, ap}
-use Prim.Native.Nat.{_*_}
-use native.Mathlib.Omega.{arith}
+use mathlib.Core.Path.{_∙_, ap}
+use mathlib.Core.List.{[]}
+use Prim.Native.Nat.{min}
 use lib.ListN.{length}
-use Rattle.std.specs.declared.result.Result.the-variants.{Err}
-use Rattle.std.proofs.shelf.Results.{err-from-errBy}
-use Rattle.text.specs.declared.fault.FileFault.the-variants.{Row}
 use Rattle.text.specs.Files.{rowCount}
-use Rattle.text.specs.Lists.{replyRead}
-use Rattle.text.proofs.Layers.{numbered-ok, numbered-err}
-use Rattle.text.proofs.FileReading.{row-part}
-use Rattle.text.proofs.ListReading.{list-none, list-more, list-whole, list-faulty}
+use Rattle.text.specs.Lists.{listStep, over}
+use Rattle.text.proofs.FileReading.{file-answer, file-left}
+use Rattle.text.proofs.ListFiles.{list-exact}
 use Rattle.text.proofs.list.read_list.Needs as need
-
-pub loop-i-holds : need.loop-i-holds
-loop-i-holds c = list-none (c .args .bytes .now) (c .in-Continue-rows .rows) (c .args .out .now)
-
-pub loop-i-again : need.loop-i-again
-loop-i-again c =
-    let e = numbered-ok _ (c .read-reply .result) (c .in-Continue-reply .reply) (c .in-Continue-reply .ensures tt) in
-    let read = sym (ap (replyRead (c .loop-i .last)) (row-part (c .args .bytes .now) (35 * c .loop-i .i) 35)) ∙ (sym (c .read-reply .ensures) ∙ e) in
-    let within = c .in-Continue-rows .ensures tt .within in
-    list-more (c .args .bytes .now) (c .in-Continue-rows .rows) (c .args .out .now) (c .loop-i .out) (c .loop-i .i) (c .loop-i .last) (c .loop-i .inv) (c .in-Continue-reply .reply) (c .loop-i-test .taken) (omega arith) read
-
-pub returns-in-Break-reply : need.returns-in-Break-reply
-returns-in-Break-reply c =
-    let p = err-from-errBy (c .from-residual-in-Break-reply .result) (c .from-residual-in-Break-reply .ensures .1) in
-    let q = numbered-err _ (c .read-reply .result) (c .in-Break-reply .field-0 .0) (c .in-Break-reply .ensures tt) in
-    let read = sym (ap (replyRead (c .loop-i .last)) (row-part (c .args .bytes .now) (35 * c .loop-i .i) 35)) ∙ (sym (c .read-reply .ensures) ∙ q .1) in
-    let within = c .in-Continue-rows .ensures tt .within in
-    let size = c .in-Continue-rows .ensures tt .value ∙ ap (λ m. rowCount 35 m (length (c .args .bytes .now))) (c .min .ensures) in
-    let a = list-faulty (c .args .bytes .now) (c .in-Continue-rows .rows) (c .args .out .now) (c .loop-i .out) (c .loop-i .i) (c .loop-i .last) (c .loop-i .inv) (length (c .args .out .now)) size (omega arith) (q .0) (c .loop-i-test .taken) read in
-    record { value = p .1 ∙ (ap Err (p .2) ∙ (ap (λ f. Err (Row f)) (q .2) ∙ a .0)); after = a .1 }
 
 pub returns : need.returns
 returns c =
-    let within = c .in-Continue-rows .ensures tt .within in
-    let size = c .in-Continue-rows .ensures tt .value ∙ ap (λ m. rowCount 35 m (length (c .args .bytes .now))) (c .min .ensures) in
-    let a = list-whole (c .args .bytes .now) (c .in-Continue-rows .rows) (c .args .out .now) (c .loop-i .out) (c .loop-i .i) (c .loop-i .last) (c .loop-i .inv) (length (c .args .out .now)) size (omega arith) (c .loop-i-test .left) in
-    record { value = a .0; after = a .1 }
+    let room = length (c .args .out .now) in
+    let size = c .in-Continue-rows .ensures tt .value ∙ ap (λ m. rowCount 35 m (length (c .args .bytes .now))) (c .min-most .ensures) in
+    let value = c .read-rows .ensures .value ∙ file-answer listStep 35 [] (c .args .bytes .now) (c .in-Continue-rows .rows) (min 50000 room) [] size in
+    record {
+      value = value;
+      after = c .read-rows .ensures .after ∙ ap (λ rs. over rs (c .args .out .now)) (file-left listStep 35 [] (c .args .bytes .now) (c .in-Continue-rows .rows) (min 50000 room) [] size);
+      exact = list-exact (c .args .bytes .now) room _ value;
+    }

@@ -1,43 +1,15 @@
-use mathlib.Core.Path.{_≡_, _∙_, sym, ap, subst}
-use Prim.Native.Nat.{ℕ}
-use native.Mathlib.Omega.{arith}
-use Rattle.std.specs.declared.result.Result.the-variants.{Err}
-use Rattle.std.proofs.shelf.Results.{err-from-errBy}
+use mathlib.Core.Path.{_∙_}
 use Rattle.pace.specs.Steps.{laddersOf, noSteps}
-use Rattle.text.specs.declared.fault.FileFault.the-variants.{Row}
 use Rattle.text.specs.Schedules.{scheduleStep}
-use Rattle.text.proofs.Layers.{numbered-ok, numbered-err}
-use Rattle.text.proofs.FileReading.{ReadTo, read-none, read-all, taken-more, refused-stops, file-whole, file-faulty, row-not-size}
+use Rattle.text.proofs.FileReading.{file-answer, file-left, rows-not-size}
 use Rattle.text.proofs.schedule.read_schedule.Needs as need
-
-pub loop-i-holds : need.loop-i-holds
-loop-i-holds c =
-    subst (ReadTo scheduleStep 17 noSteps (c .args .bytes .now) (c .in-Continue-rows .rows) 0) (sym (c .new .ensures)) (read-none scheduleStep 17 noSteps (c .args .bytes .now) (c .in-Continue-rows .rows))
-
-pub loop-i-again : need.loop-i-again
-loop-i-again c =
-    let e = numbered-ok _ (c .read-step .result) (c .in-Continue-at-number .field-0) (c .in-Continue-at-number .ensures tt) in
-    taken-more scheduleStep 17 noSteps (c .args .bytes .now) (c .in-Continue-rows .rows) (c .loop-i .i) (laddersOf (c .loop-i .steps)) (laddersOf (c .read-step .last .steps)) (c .loop-i-test .taken) (c .loop-i .inv) (c .read-step .result) _ e (c .read-step .ensures)
-
-pub returns-in-Break-at-number : need.returns-in-Break-at-number
-returns-in-Break-at-number c =
-    let p = err-from-errBy (c .from-residual-in-Break-at-number .result) (c .from-residual-in-Break-at-number .ensures .1) in
-    let q = numbered-err _ (c .read-step .result) (c .in-Break-at-number .field-0 .0) (c .in-Break-at-number .ensures tt) in
-    let stops = refused-stops scheduleStep 17 noSteps (c .args .bytes .now) (c .in-Continue-rows .rows) (c .loop-i .i) (laddersOf (c .loop-i .steps)) (laddersOf (c .read-step .last .steps)) (c .loop-i-test .taken) (c .loop-i .inv) (c .read-step .result) (q .0) (q .1) (c .read-step .ensures) in
-    let a = file-faulty scheduleStep 17 noSteps (c .args .bytes .now) (c .in-Continue-rows .rows) 128 (laddersOf (c .args .steps .now)) (laddersOf (c .loop-i .steps)) (c .in-Continue-rows .ensures tt .value) _ (stops .0) in
-    let r = p .1 ∙ (ap Err (p .2) ∙ ap (λ f. Err (Row f)) (q .2)) in
-    record {
-      value = r ∙ a .0;
-      after = stops .1 ∙ a .1;
-      same = λ e. absurd (row-not-size _ _ r e);
-    }
 
 pub returns : need.returns
 returns c =
-    let all = read-all scheduleStep 17 noSteps (c .args .bytes .now) (c .in-Continue-rows .rows) (c .loop-i .i) (laddersOf (c .loop-i .steps)) (c .loop-i-test .left) (c .loop-i .inv) in
-    let a = file-whole scheduleStep 17 noSteps (c .args .bytes .now) (c .in-Continue-rows .rows) 128 (laddersOf (c .args .steps .now)) (laddersOf (c .loop-i .steps)) (c .in-Continue-rows .ensures tt .value) all in
+    let size = c .in-Continue-rows .ensures tt .value in
+    let old = laddersOf (c .args .steps .now) in
     record {
-      value = a .0;
-      after = a .1;
-      same = λ e. let z : _≡_ {A = ℕ} 0 1 = cc in absurd (omega arith);
+      value = c .read-rows .ensures .value ∙ file-answer scheduleStep 17 noSteps (c .args .bytes .now) (c .in-Continue-rows .rows) 128 old size;
+      after = c .read-rows .ensures .after ∙ file-left scheduleStep 17 noSteps (c .args .bytes .now) (c .in-Continue-rows .rows) 128 old size;
+      same = λ e. absurd (rows-not-size _ _ _ (c .read-rows .ensures .value) e);
     }
