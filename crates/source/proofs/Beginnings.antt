@@ -56,7 +56,8 @@ module _ {B : Type 0} where
         rises = leb-true last (r .asked) (p .0);
         waits = leb-true (r .asked) (r .ready) (q .0);
         within = leb-true (r .ready) 1000000000 (s .0);
-        known = leb-true (r .«class») 7 (s .1) }
+        known = leb-true (r .«class») 7 (s .1);
+      }
 
   pub begins : (last : ℕ) (r : Reply B) (rs : List (Reply B)) → follows last r ≡ true → beginning last (r ∷ rs) ≡ r ∷ beginning (r .asked) rs
   begins last r rs e = rw (e, beginning) refl
@@ -68,8 +69,9 @@ module _ {B : Type 0} where
   beginning-lawful last [] = tt
   beginning-lawful last (r ∷ rs) =
       elim (cases-bool (follows last r)) [
-          inl e ↦ rw (begins last r rs e) (follows-so last r e, beginning-lawful (r .asked) rs)
-        | inr e ↦ rw (stops last r rs e) tt ]
+        | inl e ↦ rw (begins last r rs e) (follows-so last r e, beginning-lawful (r .asked) rs)
+        | inr e ↦ rw (stops last r rs e) tt
+      ]
 
   -- what stands at the place that is read next
   module _ (rs : List (Reply B)) (k last : ℕ) (e : End) where
@@ -87,11 +89,13 @@ module _ {B : Type 0} where
   first-lawful [] last e r h = let z : _≡_ {A = ℕ} 0 1 = cc in absurd (omega arith)
   first-lawful (x ∷ rs) last e r h =
       elim (cases-bool (follows last x)) [
-          inl ok ↦ let s : r ≡ x = ok-same (h ∙ ap (λ l. first l e) (begins last x rs ok)) in (ap (λ a. a ∷ rs) (sym s), rw s ok)
-        | inr bad ↦ absurd (never (h ∙ ap (λ l. first l e) (stops last x rs bad))) ]
+        | inl ok ↦ let s : r ≡ x = ok-same (h ∙ ap (λ l. first l e) (begins last x rs ok)) in (ap (λ a. a ∷ rs) (sym s), rw s ok)
+        | inr bad ↦ absurd (never (h ∙ ap (λ l. first l e) (stops last x rs bad)))
+      ]
     where
       ok-same : {a b : Reply B} → _≡_ {A = Result (Reply B) End} (Ok a) (Ok b) → a ≡ b
       ok-same p = cc
+
       never : {a : Reply B} {d : End} → _≡_ {A = Result (Reply B) End} (Ok a) (Err d) → ⊥
       never p = let z : _≡_ {A = ℕ} 0 1 = cc in omega arith
 

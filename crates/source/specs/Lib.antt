@@ -1,1 +1,4 @@
 pub mod Replies
+pub mod Refusals
+pub mod Settings
+pub mod Buckets

@@ -22,6 +22,10 @@ pub impl<T: Copy> Buffer for &[T] as SliceBuffer {
 
     fn item(&self, index: usize) -> Option<T> {
         let items = *self;
-        if index < items.len() { Some(items[index]) } else { None }
+        if index < items.len() {
+            Some(items[index])
+        } else {
+            None
+        }
     }
 }

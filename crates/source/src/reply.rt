@@ -1,5 +1,6 @@
 // A reply of a service, and how a list of replies ends.
 ghost use mathlib.Core.Path.{_≡_};
+ghost use Rattle.source.specs.Refusals.{endNumber};
 ghost use Rattle.source.specs.Replies.{follows};
 
 // The horizon: the last tick.
@@ -23,7 +24,10 @@ impl<B> Reply<B> {
     pub fn follows(&self, last: u32) -> bool
         ensures { λ r. ⌜ r ≡ follows last (now (self .entry)) ⌝ }
     {
-        last <= self.asked && self.asked <= self.ready && self.ready <= HORIZON && self.class <= LAST_CLASS
+        last <= self.asked
+            && self.asked <= self.ready
+            && self.ready <= HORIZON
+            && self.class <= LAST_CLASS
     }
 }
 
@@ -32,4 +36,16 @@ impl<B> Reply<B> {
 pub enum End {
     Dry,
     Horizon,
+}
+
+impl End {
+    // The number of the refusal with which a call answers the mark.
+    pub fn number(&self) -> u32
+        ensures { λ r. ⌜ r ≡ endNumber (now (self .entry)) ⌝ }
+    {
+        match self {
+            End::Dry => 6,
+            End::Horizon => 7,
+        }
+    }
 }

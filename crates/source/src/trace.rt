@@ -25,14 +25,22 @@ impl<B: Copy, R: Buffer<Item = Reply<B>>> Trace<R> {
     pub fn new(records: R) -> Trace<R>
         ensures { λ t. ⌜ t ≡ record { records = records; taken = 0; last = 0 } ⌝ }
     {
-        Trace { records, taken: 0, last: 0 }
+        Trace {
+            records,
+            taken: 0,
+            last: 0,
+        }
     }
 
     // The record that would be taken next, lawful or not.
     fn record(&self) -> Option<Reply<B>>
         ensures { λ r. ⌜ r ≡ nth (take 50000 (R·Buffer .items (now (self .entry) .records))) (now (self .entry) .taken) ⌝ }
     {
-        if self.taken < MOST_RECORDS { self.records.item(self.taken) } else { None }
+        if self.taken < MOST_RECORDS {
+            self.records.item(self.taken)
+        } else {
+            None
+        }
     }
 }
 
@@ -47,7 +55,11 @@ pub impl<B: Copy, R: Buffer<Item = Reply<B>>> Source for Trace<R> as TraceSource
         let Some(reply) = self.record() else {
             return Err(End::Dry);
         };
-        if reply.follows(self.last) { Ok(reply) } else { Err(End::Dry) }
+        if reply.follows(self.last) {
+            Ok(reply)
+        } else {
+            Err(End::Dry)
+        }
     }
 
     fn take(&mut self) -> Result<Reply<B>, End> {

@@ -20,4 +20,5 @@ returns g c =
       value = c .in-Continue-reply .ensures tt;
       rest = n .1;
       mark = refl;
-      refused = λ e no-reply. let z : _≡_ {A = ℕ} 0 1 = cc in absurd (omega arith) }
+      refused = λ e no-reply. let z : _≡_ {A = ℕ} 0 1 = cc in absurd (omega arith);
+    }
