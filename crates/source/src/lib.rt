@@ -8,10 +8,12 @@ ghost use Rattle.source.specs.Replies.{Lawful, first, rest};
 use reply::End;
 use reply::Reply;
 
+pub mod bench;
 pub mod bucket;
 pub mod buffer;
 pub mod fault;
 pub mod reply;
+mod servers;
 pub mod setting;
 pub mod trace;
 

@@ -1,9 +1,8 @@
 // A trace: replies read from records in the host's buffer.
 ghost use mathlib.Core.Path.{_≡_};
 ghost use lib.ListN.{take, drop};
-ghost use Rattle.std.specs.shelf.Maps.{nth};
 ghost use Rattle.source.specs.declared.reply.End.the-variants.{Dry};
-ghost use Rattle.source.specs.Replies.{beginning};
+ghost use Rattle.source.specs.Replies.{beginning, LongestLawful};
 use super::Source;
 use super::buffer::Buffer;
 use super::reply::End;
@@ -23,23 +22,13 @@ pub struct Trace<R> {
 impl<B: Copy, R: Buffer<Item = Reply<B>>> Trace<R> {
     // A trace of the longest lawful beginning of the first 50,000 records.
     pub fn new(records: R) -> Trace<R>
-        ensures { λ t. ⌜ t ≡ record { records = records; taken = 0; last = 0 } ⌝ }
+        ensures value { λ t. ⌜ t ≡ record { records = records; taken = 0; last = 0 } ⌝ }
+        ensures longest { λ t. ⌜ LongestLawful (take 50000 (R·Buffer .items records)) (beginning (t .last) (drop (t .taken) (take 50000 (R·Buffer .items (t .records))))) ⌝ }
     {
         Trace {
             records,
             taken: 0,
             last: 0,
-        }
-    }
-
-    // The record that would be taken next, lawful or not.
-    fn record(&self) -> Option<Reply<B>>
-        ensures { λ r. ⌜ r ≡ nth (take 50000 (R·Buffer .items (now (self .entry) .records))) (now (self .entry) .taken) ⌝ }
-    {
-        if self.taken < MOST_RECORDS {
-            self.records.item(self.taken)
-        } else {
-            None
         }
     }
 }
@@ -52,7 +41,7 @@ pub impl<B: Copy, R: Buffer<Item = Reply<B>>> Source for Trace<R> as TraceSource
     ghost mark = { λ _. Dry };
 
     fn head(&self) -> Result<Reply<B>, End> {
-        let Some(reply) = self.record() else {
+        let Some(reply) = self.records.early(self.taken) else {
             return Err(End::Dry);
         };
         if reply.follows(self.last) {

@@ -12,7 +12,7 @@ returns-then-follows g c =
 pub returns-in-rest : need.returns-in-rest
 returns-in-rest g c =
     let t = c .args .self .now in
-    head-none (take 50000 (g .R·Buffer .items (t .records))) (t .taken) (t .last) Dry (sym (c .record .ensures) ∙ c .in-rest .is)
+    head-none (take 50000 (g .R·Buffer .items (t .records))) (t .taken) (t .last) Dry (sym (c .early .ensures) ∙ c .in-rest .is)
 
 pub returns-else-follows : need.returns-else-follows
 returns-else-follows g c =
