@@ -9,6 +9,7 @@ use reply::End;
 use reply::Reply;
 
 pub mod bench;
+pub mod body;
 pub mod bucket;
 pub mod buffer;
 pub mod fault;
