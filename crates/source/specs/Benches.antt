@@ -4,6 +4,7 @@
 --   shift        a job on its server: when it starts, and the reply that it gives
 --   plan         the shifts of the jobs in order, up to the job that ends the list
 --   planMark     how the list ends
+--   shifts       the plan of the first 50,000 jobs of a bench, less those taken
 --   Idle         a server whose earlier shifts are over at a tick
 --   Planned      what a plan keeps: no server works on two jobs at once, each job starts at the earliest tick that
 --                some server allows, and is ready after its work
@@ -12,7 +13,7 @@ use mathlib.Core.Bool.{Bool, true, false, _&&_}
 use mathlib.Core.List.{List, [], _∷_, map}
 use Prim.Native.Nat.{ℕ, suc, _+_, _<_, _≤_, max}
 use lib.Dec.{leb}
-use lib.ListN.{getD, set, take}
+use lib.ListN.{getD, set, take, drop}
 use Rattle.std.specs.declared.result.Result.{Result}
 use Rattle.std.specs.declared.result.Result.the-variants.{Ok, Err}
 use Rattle.source.specs.declared.reply.Reply.{Reply}
@@ -20,6 +21,7 @@ use Rattle.source.specs.declared.reply.End.{End}
 use Rattle.source.specs.declared.reply.End.the-variants.{Dry, Horizon}
 use Rattle.source.specs.declared.bench.Job.{Job}
 use Rattle.source.specs.declared.bench.Shift.{Shift}
+use Rattle.source.specs.declared.bench.Bench.{Bench}
 use Rattle.source.specs.declared.servers.Servers.{Servers}
 use Rattle.source.specs.Replies.{horizon}
 
@@ -65,6 +67,13 @@ module _ {B : Type 0} where
 
   abbrev pub replies : List (Shift B) → List (Reply B)
   replies xs = map (λ x. x .reply) xs
+
+  -- the shifts that a bench has still to come, of the jobs that its buffer holds, and how they end
+  abbrev pub shifts : {J : Type 0} → List (Job B) → Bench J → List (Shift B)
+  shifts held b = plan (b .last) (freeOf (b .servers)) (drop (b .taken) (take 50000 held))
+
+  abbrev pub shiftsMark : {J : Type 0} → List (Job B) → Bench J → End
+  shiftsMark held b = planMark (b .last) (freeOf (b .servers)) (drop (b .taken) (take 50000 held))
 
   -- the first shift, or the end mark
   abbrev pub firstShift : List (Shift B) → End → Result (Shift B) End

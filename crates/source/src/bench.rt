@@ -1,8 +1,8 @@
 // A bench: replies that servers work out from jobs in the host's buffer.
 ghost use mathlib.Core.Path.{_≡_};
 ghost use mathlib.Core.List.{[]};
-ghost use lib.ListN.{take, drop, replicate};
-ghost use Rattle.source.specs.Benches.{freeOf, jobFollows, shiftAnswer, plan, planMark, replies, firstShift, Plan};
+ghost use lib.ListN.{take, replicate};
+ghost use Rattle.source.specs.Benches.{freeOf, jobFollows, shiftAnswer, shifts, shiftsMark, replies, firstShift, Plan};
 use super::Source;
 use super::buffer::Buffer;
 use super::reply::End;
@@ -58,7 +58,7 @@ impl<B: Copy, J: Buffer<Item = Job<B>>> Bench<J> {
     // A bench for the first 50,000 jobs.
     pub fn new(jobs: J, servers: ServerCount) -> Bench<J>
         ensures value { λ b. ⌜ b ≡ record { jobs = jobs; taken = 0; last = 0; servers = record { number = servers; free = replicate 4 0 } } ⌝ }
-        ensures planned { λ b. ⌜ Plan (servers .count) [] (take 50000 (J·Buffer .items jobs)) (plan (b .last) (freeOf (b .servers)) (drop (b .taken) (take 50000 (J·Buffer .items (b .jobs))))) ⌝ }
+        ensures planned { λ b. ⌜ Plan (servers .count) [] (take 50000 (J·Buffer .items jobs)) (shifts (J·Buffer .items (b .jobs)) b) ⌝ }
     {
         Bench {
             jobs,
@@ -95,7 +95,7 @@ impl<B: Copy, J: Buffer<Item = Job<B>>> Bench<J> {
 
     // The shift that would be taken next, or why there is none.
     fn next_shift(&self) -> Result<Shift<B>, End>
-        ensures { λ r. ⌜ r ≡ firstShift (plan (now (self .entry) .last) (freeOf (now (self .entry) .servers)) (drop (now (self .entry) .taken) (take 50000 (J·Buffer .items (now (self .entry) .jobs))))) (planMark (now (self .entry) .last) (freeOf (now (self .entry) .servers)) (drop (now (self .entry) .taken) (take 50000 (J·Buffer .items (now (self .entry) .jobs))))) ⌝ }
+        ensures { λ r. ⌜ r ≡ firstShift (shifts (J·Buffer .items (now (self .entry) .jobs)) (now (self .entry))) (shiftsMark (J·Buffer .items (now (self .entry) .jobs)) (now (self .entry))) ⌝ }
     {
         let Some(job) = self.jobs.early(self.taken) else {
             return Err(End::Dry);
@@ -107,13 +107,13 @@ impl<B: Copy, J: Buffer<Item = Job<B>>> Bench<J> {
 pub impl<B: Copy, J: Buffer<Item = Job<B>>> Source for Bench<J> as BenchSource {
     type Body = B;
 
-    ghost coming = { λ b. replies (plan (b .last) (freeOf (b .servers)) (drop (b .taken) (take 50000 (J·Buffer .items (b .jobs))))) };
+    ghost coming = { λ b. replies (shifts (J·Buffer .items (b .jobs)) b) };
 
-    ghost mark = { λ b. planMark (b .last) (freeOf (b .servers)) (drop (b .taken) (take 50000 (J·Buffer .items (b .jobs)))) };
+    ghost mark = { λ b. shiftsMark (J·Buffer .items (b .jobs)) b };
 
     fn head(&self) -> Result<Reply<B>, End> {
-        let shift = self.next_shift()?;
-        Ok(shift.reply)
+        let next = self.next_shift()?;
+        Ok(next.reply)
     }
 
     fn take(&mut self) -> Result<Reply<B>, End> {
