@@ -110,8 +110,3 @@ found-earliest free n s some enough f =
     let long = length-take-le n free enough in
     first-unique (take n free) n s (earliest (take n free)) (first-among free n s f)
     (subst (λ m. FirstUpTo (take n free) m (earliest (take n free))) long (earliest-first (take n free) (omega arith)))
-
-pub earliest-known : (free : List ℕ) (n : ℕ) → 1 ≤ n → n ≤ length free → earliest (take n free) < n
-earliest-known free n some enough =
-    let long = length-take-le n free enough in
-    omega (arith, earliest-first (take n free) (omega arith) .known)

@@ -6,10 +6,11 @@ use mathlib.Core.Logic.{_⊎_, inl, inr}
 use Prim.Native.Nat.{ℕ, zero, suc, _+_, _<_, _≤_, max}
 use native.Mathlib.Omega.{arith}
 use lib.Dec.{leb}
-use lib.ListN.{length, getD, set, take, drop, length-drop}
+use lib.ListN.{length, getD, set, take, drop, length-take, length-drop}
 use Rattle.std.specs.declared.option.Option.the-variants.{None, Some}
 use Rattle.std.specs.declared.result.Result.{Result}
 use Rattle.std.specs.declared.result.Result.the-variants.{Ok, Err}
+use Rattle.std.specs.Vec.{made}
 use Rattle.std.specs.shelf.Maps.{nth}
 use Rattle.std.proofs.shelf.Lists.{drop-drop, getD-take}
 use Rattle.std.proofs.shelf.Tests.{and-parts, cases-bool, leb-true, le-leb, lt-leb}
@@ -17,8 +18,9 @@ use Rattle.source.specs.declared.reply.End.{End}
 use Rattle.source.specs.declared.reply.End.the-variants.{Dry, Horizon}
 use Rattle.source.specs.declared.bench.Job.{Job}
 use Rattle.source.specs.declared.bench.Shift.{Shift}
+use Rattle.source.specs.declared.bench.Bench.{Bench}
 use Rattle.source.specs.declared.servers.Servers.{Servers}
-use Rattle.source.specs.Benches.{freeOf, earliest, jobFollows, worked, shiftOf, shiftAnswer, freed, plan, planMark, firstShift}
+use Rattle.source.specs.Benches.{freeOf, earliest, jobFollows, worked, shiftOf, shiftAnswer, freed, plan, planMark, firstShift, shifts, shiftsMark, NextOf}
 use Rattle.source.proofs.Places.{drop-some, drop-none}
 
 pub cases-result : {X Y : Type 0} (r : Result X Y) → ((x : X) × (r ≡ Ok x)) ⊎ ((y : Y) × (r ≡ Err y))
@@ -139,7 +141,6 @@ module _ {B : Type 0} where
   -- and what is left after it, read from the next place on
   pub record Read (js : List (Job B)) (k last : ℕ) (free : List ℕ) (x : Shift B) : Type 0 where
     pub inside : k < length js
-    pub served : x .server ≡ earliest free
     pub others : plan last free (drop k js) ≡ x ∷ plan (x .reply .asked) (freed free x) (drop (k + 1) js)
     pub same-mark : planMark (x .reply .asked) (freed free x) (drop (k + 1) js) ≡ planMark last free (drop k js)
 
@@ -150,7 +151,6 @@ module _ {B : Type 0} where
       let n : length (drop k js) ≡ length (j ∷ drop (k + 1) js) = ap length here in
       record {
         inside = omega (arith, simp length-drop at n);
-        served = ap (λ y. y .server) (t .is);
         others = ap (plan last free) here ∙ (plan-taken last free j (drop (k + 1) js) x is-ok ∙ ap (λ a. x ∷ plan a (freed free x) (drop (k + 1) js)) (sym asked));
         same-mark = ap (λ a. planMark a (freed free x) (drop (k + 1) js)) asked ∙ (sym (mark-taken last free j (drop (k + 1) js) x is-ok) ∙ sym (ap (planMark last free) here));
       }
@@ -159,3 +159,10 @@ module _ {B : Type 0} where
   shift-read js k last free m x h =
       let p = first-planned (drop k js) last free m x h in
       read-at js k last free (p .0) x (p .1 ∙ ap (λ l. p .0 ∷ l) (drop-drop 1 k js)) (p .2)
+
+  -- the same, of a bench
+  pub next-is : {J : Type 0} (held : List (Job B)) (b : Bench J) (r : Result (Shift B) End) → made r (λ x. x .server < b .servers .number .count) → r ≡ firstShift (shifts held b) (shiftsMark held b) → NextOf held b r
+  next-is held b (Err m) known h = tt
+  next-is held b (Ok x) known h =
+      let r = shift-read (take 50000 held) (b .taken) (b .last) (freeOf (b .servers)) (shiftsMark held b) x h in
+      record { inside = omega (arith, r .inside, length-take 50000 held); known = known; others = r .others; same-mark = sym (r .same-mark) }

@@ -80,6 +80,17 @@ module _ {B : Type 0} where
   firstShift [] e = Err e
   firstShift (x ∷ xs) e = Ok x
 
+  -- a shift that comes first, and what comes after it
+  pub record Next {J : Type 0} (held : List (Job B)) (b : Bench J) (x : Shift B) : Type 0 where
+    pub inside : b .taken < 50000
+    pub known : x .server < b .servers .number .count
+    pub others : shifts held b ≡ x ∷ plan (x .reply .asked) (freed (freeOf (b .servers)) x) (drop (b .taken + 1) (take 50000 held))
+    pub same-mark : shiftsMark held b ≡ planMark (x .reply .asked) (freed (freeOf (b .servers)) x) (drop (b .taken + 1) (take 50000 held))
+
+  abbrev pub NextOf : {J : Type 0} → List (Job B) → Bench J → Result (Shift B) End → Type 0
+  NextOf held b (Ok x) = Next held b x
+  NextOf held b (Err e) = Unit {0}
+
   abbrev pub Idle : List (Shift B) → ℕ → ℕ → Type 0
   Idle [] s t = Unit {0}
   Idle (x ∷ xs) s t = (x .server ≡ s → x .reply .ready ≤ t) × Idle xs s t

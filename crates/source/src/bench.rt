@@ -1,8 +1,10 @@
 // A bench: replies that servers work out from jobs in the host's buffer.
 ghost use mathlib.Core.Path.{_≡_};
 ghost use mathlib.Core.List.{[]};
+ghost use Prim.Native.Nat.{_<_};
 ghost use lib.ListN.{take, replicate};
-ghost use Rattle.source.specs.Benches.{freeOf, jobFollows, shiftAnswer, shifts, shiftsMark, replies, firstShift, Plan};
+ghost use Rattle.std.specs.Vec.{made};
+ghost use Rattle.source.specs.Benches.{freeOf, jobFollows, shiftAnswer, shifts, shiftsMark, replies, firstShift, NextOf, Plan};
 use super::Source;
 use super::buffer::Buffer;
 use super::reply::End;
@@ -70,7 +72,8 @@ impl<B: Copy, J: Buffer<Item = Job<B>>> Bench<J> {
 
     // The shift of a job on the server that is free earliest, or the mark that the job ends the list with.
     fn shift(&self, job: Job<B>) -> Result<Shift<B>, End>
-        ensures { λ r. ⌜ r ≡ shiftAnswer (now (self .entry) .last) (freeOf (now (self .entry) .servers)) job ⌝ }
+        ensures value { λ r. ⌜ r ≡ shiftAnswer (now (self .entry) .last) (freeOf (now (self .entry) .servers)) job ⌝ }
+        ensures known { λ r. ⌜ made r (λ x. x .server < now (self .entry) .servers .number .count) ⌝ }
     {
         if !job.follows(self.last) {
             return Err(End::Dry);
@@ -95,7 +98,8 @@ impl<B: Copy, J: Buffer<Item = Job<B>>> Bench<J> {
 
     // The shift that would be taken next, or why there is none.
     fn next_shift(&self) -> Result<Shift<B>, End>
-        ensures { λ r. ⌜ r ≡ firstShift (shifts (J·Buffer .items (now (self .entry) .jobs)) (now (self .entry))) (shiftsMark (J·Buffer .items (now (self .entry) .jobs)) (now (self .entry))) ⌝ }
+        ensures value { λ r. ⌜ r ≡ firstShift (shifts (J·Buffer .items (now (self .entry) .jobs)) (now (self .entry))) (shiftsMark (J·Buffer .items (now (self .entry) .jobs)) (now (self .entry))) ⌝ }
+        ensures next { λ r. ⌜ NextOf (J·Buffer .items (now (self .entry) .jobs)) (now (self .entry)) r ⌝ }
     {
         let Some(job) = self.jobs.early(self.taken) else {
             return Err(End::Dry);
@@ -120,7 +124,7 @@ pub impl<B: Copy, J: Buffer<Item = Job<B>>> Source for Bench<J> as BenchSource {
         let shift = self.next_shift()?;
         self.taken += 1;
         self.last = shift.reply.asked;
-        self.servers.free[shift.server] = shift.reply.ready;
+        self.servers.occupy(shift.server, shift.reply.ready);
         Ok(shift.reply)
     }
 }

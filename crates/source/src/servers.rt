@@ -1,7 +1,7 @@
 // The servers of a bench.
 ghost use mathlib.Core.Path.{_≡_};
 ghost use Prim.Native.Nat.{_<_};
-ghost use lib.ListN.{replicate};
+ghost use lib.ListN.{replicate, set};
 ghost use Rattle.source.specs.Benches.{freeOf, earliest};
 use super::setting::ServerCount;
 
@@ -35,5 +35,14 @@ impl Servers {
             }
         }
         first
+    }
+
+    // Keeps a server busy up to a tick.
+    pub(crate) fn occupy(&mut self, server: usize, until: u32)
+        requires { ⌜ server < now self .number .count ⌝ }
+        ensures free { λ _. ⌜ freeOf (now (self .exit)) ≡ set (freeOf (now (self .entry))) server until ⌝ }
+        ensures number { λ _. ⌜ now (self .exit) .number ≡ now (self .entry) .number ⌝ }
+    {
+        self.free[server] = until;
     }
 }
