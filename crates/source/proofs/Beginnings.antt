@@ -3,10 +3,10 @@ use mathlib.Core.Path.{_≡_, refl, sym, _∙_, ap, subst}
 use mathlib.Core.Bool.{true, false}
 use mathlib.Core.List.{List, [], _∷_, _++_}
 use mathlib.Core.Logic.{inl, inr}
-use Prim.Native.Nat.{ℕ, _+_, _<_, _≤_}
+use Prim.Native.Nat.{ℕ, _+_, _≤_}
 use native.Mathlib.Omega.{arith}
 use lib.Dec.{leb}
-use lib.ListN.{length, drop, length-drop}
+use lib.ListN.{length, take, drop, length-take, length-drop}
 use Rattle.std.specs.declared.option.Option.the-variants.{None, Some}
 use Rattle.std.specs.declared.result.Result.{Result}
 use Rattle.std.specs.declared.result.Result.the-variants.{Ok, Err}
@@ -15,7 +15,10 @@ use Rattle.std.proofs.shelf.Lists.{drop-drop}
 use Rattle.std.proofs.shelf.Tests.{and-parts, leb-true, le-leb, cases-bool}
 use Rattle.source.specs.declared.reply.Reply.{Reply}
 use Rattle.source.specs.declared.reply.End.{End}
-use Rattle.source.specs.Replies.{Follows, LawfulFrom, Lawful, first, rest, follows, beginning, LongestLawful}
+use Rattle.source.specs.declared.reply.End.the-variants.{Dry}
+use Rattle.source.specs.declared.trace.Trace.{Trace}
+use Rattle.source.specs.Replies.{Follows, LawfulFrom, Lawful, first, follows, beginning, LongestLawful}
+use Rattle.source.specs.Traces.{shown, Next}
 use Rattle.source.proofs.Places.{drop-some, drop-none}
 
 module _ {B : Type 0} where
@@ -96,16 +99,16 @@ module _ {B : Type 0} where
       never p = let z : _≡_ {A = ℕ} 0 1 = cc in omega arith
 
   -- a reply that was read: its place is inside the list, and what is left begins after it
-  pub taken-next : (rs : List (Reply B)) (k last : ℕ) (e : End) (r : Reply B) → Ok r ≡ first (beginning last (drop k rs)) e
-      → (k < length rs) × (beginning (r .asked) (drop (k + 1) rs) ≡ rest (beginning last (drop k rs)))
-  taken-next rs k last e r h =
-      let p = first-lawful (drop k rs) last e r h in
-      let n : length (drop k rs) ≡ length (r ∷ drop 1 (drop k rs)) = ap length (p .0) in
-      let d : drop 1 (drop k rs) ≡ drop (k + 1) rs = drop-drop 1 k rs in
-      (omega (arith, simp length-drop at n), tail (p .0 ∙ ap (λ t. r ∷ t) d) (p .1))
-    where
-      tail : drop k rs ≡ r ∷ drop (k + 1) rs → follows last r ≡ true → beginning (r .asked) (drop (k + 1) rs) ≡ rest (beginning last (drop k rs))
-      tail s ok = rw (s, begins last r (drop (k + 1) rs) ok) refl
+  pub next-is : {R : Type 0} (held : List (Reply B)) (t : Trace R) (r : Reply B) → Ok r ≡ first (shown held t) Dry → Next held t r
+  next-is held t r h =
+      let rs = take 50000 held in
+      let p = first-lawful (drop (t .taken) rs) (t .last) Dry r h in
+      let here : drop (t .taken) rs ≡ r ∷ drop (t .taken + 1) rs = p .0 ∙ ap (λ l. r ∷ l) (drop-drop 1 (t .taken) rs) in
+      let n : length (drop (t .taken) rs) ≡ length (r ∷ drop (t .taken + 1) rs) = ap length here in
+      record {
+        inside = omega (arith, simp length-drop at n, length-take 50000 held);
+        others = ap (beginning (t .last)) here ∙ begins (t .last) r (drop (t .taken + 1) rs) (p .1);
+      }
 
   -- a list that may follow some reply may stand alone
   pub lawful-alone : (last : ℕ) (rs : List (Reply B)) → LawfulFrom last rs → Lawful rs

@@ -1,4 +1,5 @@
 pub mod Replies
+pub mod Traces
 pub mod Refusals
 pub mod Settings
 pub mod Buckets
