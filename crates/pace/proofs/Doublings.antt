@@ -1,6 +1,6 @@
 -- Waits that double until they pass the horizon.
 use mathlib.Core.Path.{_≡_, sym, _∙_, ap}
-use Prim.Native.Nat.{ℕ, _+_, _-_, _*_, _^_, _<_, _≤_}
+use Prim.Native.Nat.{ℕ, _+_, _-_, _*_, _^_, _<_, _≤_, min}
 use native.Mathlib.Nat.{mul-assoc, pow-suc, pow-le-pow-right, mul-le-mul-left, mul-le-mul-right}
 use native.Mathlib.Numerals.{add-one}
 use native.Mathlib.Omega.{arith}
@@ -8,17 +8,21 @@ use lib.Pow.{pow-add}
 use Rattle.pace.specs.Laws.{forever}
 use Rattle.pace.specs.Steps.{doubled}
 
-pub doubled-none : (w : ℕ) → w ≡ w * 2 ^ 0
+product-more : (w n : ℕ) → w * 2 ^ n * 2 ≡ w * 2 ^ (n + 1)
+product-more w n = rw (add-one, pow-suc 2 n) (mul-assoc w (2 ^ n) 2)
+
+pub doubled-none : (w : ℕ) → min w forever ≡ doubled w 0
 doubled-none w = omega arith
 
-pub doubled-more : (w n : ℕ) → w * 2 ^ n * 2 ≡ w * 2 ^ (n + 1)
-doubled-more w n = rw (add-one, pow-suc 2 n) (mul-assoc w (2 ^ n) 2)
+-- one more doubling within the horizon
+pub doubled-more : (w n long : ℕ) → long ≡ doubled w n → long ≤ 500000000 → long * 2 ≡ doubled w (n + 1)
+doubled-more w n long e low = omega (arith, product-more w n)
 
--- a wait that passes the horizon before the last doubling
-pub doubled-past : (w i n long : ℕ) → long ≡ w * 2 ^ i → i < n → 500000000 < long → forever ≡ doubled w n
+-- one that passes it, and those after it
+pub doubled-past : (w i n long : ℕ) → long ≡ doubled w i → i < n → 500000000 < long → forever ≡ doubled w n
 doubled-past w i n long e less high =
     let more : w * 2 ^ (i + 1) ≤ w * 2 ^ n = mul-le-mul-left w (pow-le-pow-right (omega arith) (omega arith)) in
-    omega (arith, doubled-more w i)
+    omega (arith, product-more w i)
 
 -- a later wait that keeps up with the first one goes on keeping up
 pub doubled-keeps : (w v m e : ℕ) → w * 2 ^ m ≤ v → m ≤ e → doubled w e ≤ doubled v (e - m)

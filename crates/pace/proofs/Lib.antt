@@ -2,5 +2,4 @@ pub mod Doublings
 pub mod Ladders
 pub mod Waits
 pub mod Additions
-pub mod Classes
 pub mod Quanta

@@ -1,5 +1,6 @@
 // A pace that doubles each class's quantum with each epoch.
 ghost use mathlib.Core.Path.{_≡_};
+ghost use Prim.Native.Nat.{_<_, _≤_};
 ghost use lib.ListN.{set};
 ghost use Rattle.std.specs.declared.result.Result.the-variants.{Ok, Err};
 ghost use Rattle.pace.specs.declared.fault.QuantumFault.{QuantumFault};
@@ -47,6 +48,16 @@ impl Doubling {
         self.quanta[class as usize] = Quantum { ticks: quantum };
         Ok(())
     }
+
+    // The quantum of a class.
+    fn of_class(&self, class: u8) -> Result<&Quantum, UnknownClass>
+        ensures { λ r. ⌜ elim r [ Ok q ↦ («class» ≤ 7) × (now q .ticks ≡ quantumAt (quantaOf (now (self .entry))) «class») | Err _ ↦ 7 < «class» ] ⌝ }
+    {
+        if class > LAST_CLASS {
+            return Err(UnknownClass);
+        }
+        Ok(&self.quanta[class as usize])
+    }
 }
 
 pub impl Pace for Doubling as DoublingPace {
@@ -55,16 +66,12 @@ pub impl Pace for Doubling as DoublingPace {
     ghost waits = { λ d c e. doubled (quantumAt (quantaOf d) c) e };
 
     fn quantum(&self, class: u8) -> Result<u32, UnknownClass> {
-        if class > LAST_CLASS {
-            return Err(UnknownClass);
-        }
-        Ok(self.quanta[class as usize].ticks)
+        let quantum = self.of_class(class)?;
+        Ok(quantum.ticks)
     }
 
     fn wait(&self, class: u8, epoch: u32) -> Result<u32, UnknownClass> {
-        if class > LAST_CLASS {
-            return Err(UnknownClass);
-        }
-        Ok(doubled(self.quanta[class as usize].ticks, epoch))
+        let quantum = self.of_class(class)?;
+        Ok(doubled(quantum.ticks, epoch))
     }
 }

@@ -1,5 +1,6 @@
 // What a pace refuses.
 ghost use mathlib.Core.Path.{_≡_};
+ghost use Rattle.pace.specs.declared.fault.StepFault.the-variants.{Class};
 ghost use Rattle.pace.specs.Refusals.{unknownClassNumber, quantumFaultNumber, stepFaultNumber};
 
 // A class handed to a call is above 7.
@@ -54,5 +55,13 @@ impl StepFault {
             StepFault::Range => 9,
             StepFault::Order => 10,
         }
+    }
+}
+
+pub impl From<UnknownClass> for StepFault as StepFaultFromUnknownClass {
+    ghost converts = { λ u r. r ≡ Class u };
+
+    fn from(fault: UnknownClass) -> StepFault {
+        StepFault::Class(fault)
     }
 }

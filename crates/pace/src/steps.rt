@@ -1,6 +1,8 @@
 // A pace by steps: up to sixteen waits written out for each class, and doubling from the last one on.
 ghost use mathlib.Core.Path.{_≡_};
+ghost use Prim.Native.Nat.{_<_, _≤_};
 ghost use mathlib.Core.List.{_++_, _∷_, []};
+ghost use lib.ListN.{set};
 ghost use Rattle.std.specs.declared.result.Result.the-variants.{Ok, Err};
 ghost use Rattle.pace.specs.declared.fault.StepFault.{StepFault};
 ghost use Rattle.pace.specs.Steps.{ladderOf, laddersOf, noSteps, ladder, hasStep, stepsQuantum, stepsWait, stepAnswer, addAnswer, added};
@@ -8,6 +10,7 @@ use super::LARGEST_QUANTUM;
 use super::Pace;
 use super::doubled::doubled;
 use super::fault::StepFault;
+use super::fault::StepFaultFromUnknownClass;
 use super::fault::UnknownClass;
 use super::ladder::ClassSteps;
 use super::ladder::MOST_STEPS;
@@ -115,12 +118,9 @@ impl Steps {
         ensures after { λ r. ⌜ laddersOf (now (self .exit)) ≡ elim r [ Ok _ ↦ added (laddersOf (now (self .entry))) «class» wait | Err _ ↦ laddersOf (now (self .entry)) ] ⌝ }
         ensures refused { λ r. ⌜ ((f : StepFault) → r ≡ Err f → now (self .exit) ≡ now (self .entry)) ⌝ }
     {
-        if class > LAST_CLASS {
-            return Err(StepFault::Class(UnknownClass));
-        }
-        let steps = self.classes[class as usize];
+        let steps = *self.of_class(class)?;
         steps.judge(epoch, wait)?;
-        self.classes[class as usize] = steps.with(epoch, wait);
+        self.put(class, steps.with(epoch, wait));
         Ok(())
     }
 
@@ -128,7 +128,28 @@ impl Steps {
     pub fn has_step(&self, class: u8) -> bool
         ensures { λ r. ⌜ r ≡ hasStep (laddersOf (now (self .entry))) «class» ⌝ }
     {
-        class <= LAST_CLASS && self.classes[class as usize].count > 0
+        match self.of_class(class) {
+            Ok(steps) => steps.count > 0,
+            Err(_) => false,
+        }
+    }
+
+    // The steps of a class.
+    fn of_class(&self, class: u8) -> Result<&ClassSteps, UnknownClass>
+        ensures { λ r. ⌜ elim r [ Ok s ↦ («class» ≤ 7) × (ladderOf (now s) ≡ ladder (laddersOf (now (self .entry))) «class») | Err _ ↦ 7 < «class» ] ⌝ }
+    {
+        if class > LAST_CLASS {
+            return Err(UnknownClass);
+        }
+        Ok(&self.classes[class as usize])
+    }
+
+    // Gives a class its steps.
+    fn put(&mut self, class: u8, steps: ClassSteps)
+        requires { ⌜ «class» ≤ 7 ⌝ }
+        ensures { λ _. ⌜ laddersOf (now (self .exit)) ≡ set (laddersOf (now (self .entry))) «class» (ladderOf steps) ⌝ }
+    {
+        self.classes[class as usize] = steps;
     }
 }
 
@@ -138,16 +159,12 @@ pub impl Pace for Steps as StepsPace {
     ghost waits = { λ s c e. stepsWait (ladder (laddersOf s) c) e };
 
     fn quantum(&self, class: u8) -> Result<u32, UnknownClass> {
-        if class > LAST_CLASS {
-            return Err(UnknownClass);
-        }
-        Ok(self.classes[class as usize].quantum())
+        let steps = self.of_class(class)?;
+        Ok(steps.quantum())
     }
 
     fn wait(&self, class: u8, epoch: u32) -> Result<u32, UnknownClass> {
-        if class > LAST_CLASS {
-            return Err(UnknownClass);
-        }
-        Ok(self.classes[class as usize].wait(epoch))
+        let steps = self.of_class(class)?;
+        Ok(steps.wait(epoch))
     }
 }

@@ -1,50 +1,25 @@
 -- The longest lawful beginning of what is left of a list, read from a place on.
 use mathlib.Core.Path.{_≡_, refl, sym, _∙_, ap, subst}
-use mathlib.Core.Bool.{Bool, true, false}
-use mathlib.Core.List.{List, [], _∷_}
-use mathlib.Core.Logic.{_⊎_, inl, inr}
-use Prim.Native.Nat.{ℕ, zero, suc, _+_, _≤_, _<_}
+use mathlib.Core.Bool.{true, false}
+use mathlib.Core.List.{List, [], _∷_, _++_}
+use mathlib.Core.Logic.{inl, inr}
+use Prim.Native.Nat.{ℕ, _+_, _≤_}
 use native.Mathlib.Omega.{arith}
 use lib.Dec.{leb}
-use lib.ListN.{length, take, drop, length-drop}
-use Rattle.std.specs.declared.option.Option.{Option}
+use lib.ListN.{length, take, drop, length-take, length-drop}
 use Rattle.std.specs.declared.option.Option.the-variants.{None, Some}
 use Rattle.std.specs.declared.result.Result.{Result}
 use Rattle.std.specs.declared.result.Result.the-variants.{Ok, Err}
 use Rattle.std.specs.shelf.Maps.{nth}
 use Rattle.std.proofs.shelf.Lists.{drop-drop}
-use Rattle.std.proofs.shelf.Tests.{and-parts, leb-true, cases-bool}
+use Rattle.std.proofs.shelf.Tests.{and-parts, leb-true, le-leb, cases-bool}
 use Rattle.source.specs.declared.reply.Reply.{Reply}
 use Rattle.source.specs.declared.reply.End.{End}
-use Rattle.source.specs.Replies.{Follows, LawfulFrom, Lawful, first, rest, follows, beginning}
-
-module _ {A : Type 0} where
-  pub drop-some : (xs : List A) (k : ℕ) (x : A) → nth xs k ≡ Some x → drop k xs ≡ x ∷ drop (k + 1) xs
-  drop-some [] k x e = let z : _≡_ {A = ℕ} 0 1 = cc in absurd (omega arith)
-  drop-some (y ∷ ys) zero x e = let s : y ≡ x = cc in ap (λ a. a ∷ ys) s
-  drop-some (y ∷ ys) (suc k) x e = let n : suc k + 1 ≡ suc (k + 1) = omega arith in rw n (drop-some ys k x e)
-
-  pub drop-none : (xs : List A) (k : ℕ) → nth xs k ≡ None → drop k xs ≡ []
-  drop-none [] zero e = refl
-  drop-none [] (suc k) e = refl
-  drop-none (y ∷ ys) zero e = let z : _≡_ {A = ℕ} 0 1 = cc in absurd (omega arith)
-  drop-none (y ∷ ys) (suc k) e = drop-none ys k e
-
-  -- a place in the first n items
-  pub nth-take : (xs : List A) (n k : ℕ) → k < n → nth xs k ≡ nth (take n xs) k
-  nth-take [] zero k h = absurd (omega arith)
-  nth-take [] (suc n) k h = refl
-  nth-take (x ∷ xs) zero k h = absurd (omega arith)
-  nth-take (x ∷ xs) (suc n) zero h = refl
-  nth-take (x ∷ xs) (suc n) (suc k) h = nth-take xs n k (omega arith)
-
-  -- a place past them
-  pub nth-past-take : (xs : List A) (n k : ℕ) → n ≤ k → None ≡ nth (take n xs) k
-  nth-past-take [] zero k h = refl
-  nth-past-take [] (suc n) k h = refl
-  nth-past-take (x ∷ xs) zero k h = refl
-  nth-past-take (x ∷ xs) (suc n) zero h = absurd (omega arith)
-  nth-past-take (x ∷ xs) (suc n) (suc k) h = nth-past-take xs n k (omega arith)
+use Rattle.source.specs.declared.reply.End.the-variants.{Dry}
+use Rattle.source.specs.declared.trace.Trace.{Trace}
+use Rattle.source.specs.Replies.{Follows, LawfulFrom, Lawful, first, follows, beginning, LongestLawful}
+use Rattle.source.specs.Traces.{shown, Next}
+use Rattle.source.proofs.Places.{drop-some, drop-none}
 
 module _ {B : Type 0} where
   pub follows-so : (last : ℕ) (r : Reply B) → follows last r ≡ true → Follows last r
@@ -73,6 +48,30 @@ module _ {B : Type 0} where
         | inr e ↦ rw (stops last r rs e) tt
       ]
 
+  pub beginning-begins : (last : ℕ) (rs : List (Reply B)) → (more : List (Reply B)) × (rs ≡ beginning last rs ++ more)
+  beginning-begins last [] = ([], refl)
+  beginning-begins last (r ∷ rs) =
+      let tail = beginning-begins (r .asked) rs in
+      elim (cases-bool (follows last r)) [
+        | inl e ↦ (tail .0, ap (λ l. r ∷ l) (tail .1) ∙ sym (ap (λ l. l ++ tail .0) (begins last r rs e)))
+        | inr e ↦ (r ∷ rs, sym (ap (λ l. l ++ (r ∷ rs)) (stops last r rs e)))
+      ]
+
+  so-follows : (last : ℕ) (r : Reply B) → Follows last r → follows last r ≡ true
+  so-follows last r f = rw (le-leb last (r .asked) (f .rises), le-leb (r .asked) (r .ready) (f .waits), le-leb (r .ready) 1000000000 (f .within), le-leb (r .«class») 7 (f .known)) refl
+
+  pub beginning-longest : (last : ℕ) (us vs : List (Reply B)) → LawfulFrom last us → length us ≤ length (beginning last (us ++ vs))
+  beginning-longest last [] vs l = omega arith
+  beginning-longest last (u ∷ us) vs l = rw (begins last u (us ++ vs) (so-follows last u (l .0))) (omega (arith, beginning-longest (u .asked) us vs (l .1)))
+
+  pub longest-lawful : (rs : List (Reply B)) → LongestLawful rs (beginning 0 rs)
+  longest-lawful rs =
+      record {
+        begins = beginning-begins 0 rs;
+        lawful = beginning-lawful 0 rs;
+        longest = λ us vs e l. subst (λ m. length us ≤ length (beginning 0 m)) (sym e) (beginning-longest 0 us vs l);
+      }
+
   -- what stands at the place that is read next
   module _ (rs : List (Reply B)) (k last : ℕ) (e : End) where
     pub head-lawful : (r : Reply B) → nth rs k ≡ Some r → follows last r ≡ true → Ok r ≡ first (beginning last (drop k rs)) e
@@ -100,16 +99,16 @@ module _ {B : Type 0} where
       never p = let z : _≡_ {A = ℕ} 0 1 = cc in omega arith
 
   -- a reply that was read: its place is inside the list, and what is left begins after it
-  pub taken-next : (rs : List (Reply B)) (k last : ℕ) (e : End) (r : Reply B) → Ok r ≡ first (beginning last (drop k rs)) e
-      → (k < length rs) × (beginning (r .asked) (drop (k + 1) rs) ≡ rest (beginning last (drop k rs)))
-  taken-next rs k last e r h =
-      let p = first-lawful (drop k rs) last e r h in
-      let n : length (drop k rs) ≡ length (r ∷ drop 1 (drop k rs)) = ap length (p .0) in
-      let d : drop 1 (drop k rs) ≡ drop (k + 1) rs = drop-drop 1 k rs in
-      (omega (arith, simp length-drop at n), tail (p .0 ∙ ap (λ t. r ∷ t) d) (p .1))
-    where
-      tail : drop k rs ≡ r ∷ drop (k + 1) rs → follows last r ≡ true → beginning (r .asked) (drop (k + 1) rs) ≡ rest (beginning last (drop k rs))
-      tail s ok = rw (s, begins last r (drop (k + 1) rs) ok) refl
+  pub next-is : {R : Type 0} (held : List (Reply B)) (t : Trace R) (r : Reply B) → Ok r ≡ first (shown held t) Dry → Next held t r
+  next-is held t r h =
+      let rs = take 50000 held in
+      let p = first-lawful (drop (t .taken) rs) (t .last) Dry r h in
+      let here : drop (t .taken) rs ≡ r ∷ drop (t .taken + 1) rs = p .0 ∙ ap (λ l. r ∷ l) (drop-drop 1 (t .taken) rs) in
+      let n : length (drop (t .taken) rs) ≡ length (r ∷ drop (t .taken + 1) rs) = ap length here in
+      record {
+        inside = omega (arith, simp length-drop at n, length-take 50000 held);
+        others = ap (beginning (t .last)) here ∙ begins (t .last) r (drop (t .taken + 1) rs) (p .1);
+      }
 
   -- a list that may follow some reply may stand alone
   pub lawful-alone : (last : ℕ) (rs : List (Reply B)) → LawfulFrom last rs → Lawful rs

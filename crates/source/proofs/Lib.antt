@@ -1,1 +1,6 @@
+pub mod Places
 pub mod Beginnings
+pub mod Raises
+pub mod Earliest
+pub mod Shifts
+pub mod Plans

@@ -1,1 +1,6 @@
 pub mod Replies
+pub mod Traces
+pub mod Refusals
+pub mod Settings
+pub mod Buckets
+pub mod Benches

@@ -3,12 +3,13 @@
 --   Lawful      asked ≤ ready ≤ horizon and class at most 7 in each reply, and asked ticks that never fall
 --   first       the first reply, or the end mark
 --   rest        the replies after the first
---   beginning   the longest lawful beginning of a list
+--   beginning   the longest lawful beginning of a list, which is what LongestLawful says of it
 use mathlib.Core.Path.{_≡_}
 use mathlib.Core.Bool.{Bool, true, false, _&&_}
-use mathlib.Core.List.{List, [], _∷_}
+use mathlib.Core.List.{List, [], _∷_, _++_}
 use Prim.Native.Nat.{ℕ, _≤_}
 use lib.Dec.{leb}
+use lib.ListN.{length}
 use Rattle.std.specs.declared.result.Result.{Result}
 use Rattle.std.specs.declared.result.Result.the-variants.{Ok, Err}
 use Rattle.source.specs.declared.reply.Reply.{Reply}
@@ -48,3 +49,9 @@ module _ {B : Type 0} where
   abbrev pub beginning : ℕ → List (Reply B) → List (Reply B)
   beginning last [] = []
   beginning last (r ∷ rs) = elim (follows last r) [ true ↦ r ∷ beginning (r .asked) rs | false ↦ [] ]
+
+  -- shown is a beginning of the list, it is lawful, and no lawful beginning is longer
+  pub record LongestLawful (rs shown : List (Reply B)) : Type 0 where
+    pub begins : (more : List (Reply B)) × (rs ≡ shown ++ more)
+    pub lawful : Lawful shown
+    pub longest : (us vs : List (Reply B)) → rs ≡ us ++ vs → Lawful us → length us ≤ length shown

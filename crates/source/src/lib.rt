@@ -8,8 +8,14 @@ ghost use Rattle.source.specs.Replies.{Lawful, first, rest};
 use reply::End;
 use reply::Reply;
 
+pub mod bench;
+pub mod body;
+pub mod bucket;
 pub mod buffer;
+pub mod fault;
 pub mod reply;
+mod servers;
+pub mod setting;
 pub mod trace;
 
 // A source of replies, by the lawful list that is still to come and the mark with which that list ends.

@@ -1,5 +1,6 @@
 // A reply of a service, and how a list of replies ends.
 ghost use mathlib.Core.Path.{_≡_};
+ghost use Rattle.source.specs.Refusals.{endNumber};
 ghost use Rattle.source.specs.Replies.{follows};
 
 // The horizon: the last tick.
@@ -35,4 +36,16 @@ impl<B> Reply<B> {
 pub enum End {
     Dry,
     Horizon,
+}
+
+impl End {
+    // The number of the refusal with which a call answers the mark.
+    pub fn number(&self) -> u32
+        ensures { λ r. ⌜ r ≡ endNumber (now (self .entry)) ⌝ }
+    {
+        match self {
+            End::Dry => 6,
+            End::Horizon => 7,
+        }
+    }
 }

@@ -1,9 +1,9 @@
 // A trace: replies read from records in the host's buffer.
 ghost use mathlib.Core.Path.{_≡_};
-ghost use lib.ListN.{take, drop};
-ghost use Rattle.std.specs.shelf.Maps.{nth};
+ghost use lib.ListN.{take};
 ghost use Rattle.source.specs.declared.reply.End.the-variants.{Dry};
-ghost use Rattle.source.specs.Replies.{beginning};
+ghost use Rattle.source.specs.Replies.{first, LongestLawful};
+ghost use Rattle.source.specs.Traces.{shown, NextOf};
 use super::Source;
 use super::buffer::Buffer;
 use super::reply::End;
@@ -23,7 +23,8 @@ pub struct Trace<R> {
 impl<B: Copy, R: Buffer<Item = Reply<B>>> Trace<R> {
     // A trace of the longest lawful beginning of the first 50,000 records.
     pub fn new(records: R) -> Trace<R>
-        ensures { λ t. ⌜ t ≡ record { records = records; taken = 0; last = 0 } ⌝ }
+        ensures value { λ t. ⌜ t ≡ record { records = records; taken = 0; last = 0 } ⌝ }
+        ensures longest { λ t. ⌜ LongestLawful (take 50000 (R·Buffer .items records)) (shown (R·Buffer .items (t .records)) t) ⌝ }
     {
         Trace {
             records,
@@ -32,27 +33,12 @@ impl<B: Copy, R: Buffer<Item = Reply<B>>> Trace<R> {
         }
     }
 
-    // The record that would be taken next, lawful or not.
-    fn record(&self) -> Option<Reply<B>>
-        ensures { λ r. ⌜ r ≡ nth (take 50000 (R·Buffer .items (now (self .entry) .records))) (now (self .entry) .taken) ⌝ }
+    // The reply that would be taken next, or why there is none.
+    fn next_reply(&self) -> Result<Reply<B>, End>
+        ensures value { λ r. ⌜ r ≡ first (shown (R·Buffer .items (now (self .entry) .records)) (now (self .entry))) Dry ⌝ }
+        ensures next { λ r. ⌜ NextOf (R·Buffer .items (now (self .entry) .records)) (now (self .entry)) r ⌝ }
     {
-        if self.taken < MOST_RECORDS {
-            self.records.item(self.taken)
-        } else {
-            None
-        }
-    }
-}
-
-pub impl<B: Copy, R: Buffer<Item = Reply<B>>> Source for Trace<R> as TraceSource {
-    type Body = B;
-
-    ghost coming = { λ t. beginning (t .last) (drop (t .taken) (take 50000 (R·Buffer .items (t .records)))) };
-
-    ghost mark = { λ _. Dry };
-
-    fn head(&self) -> Result<Reply<B>, End> {
-        let Some(reply) = self.record() else {
+        let Some(reply) = self.records.early(self.taken) else {
             return Err(End::Dry);
         };
         if reply.follows(self.last) {
@@ -61,9 +47,21 @@ pub impl<B: Copy, R: Buffer<Item = Reply<B>>> Source for Trace<R> as TraceSource
             Err(End::Dry)
         }
     }
+}
+
+pub impl<B: Copy, R: Buffer<Item = Reply<B>>> Source for Trace<R> as TraceSource {
+    type Body = B;
+
+    ghost coming = { λ t. shown (R·Buffer .items (t .records)) t };
+
+    ghost mark = { λ _. Dry };
+
+    fn head(&self) -> Result<Reply<B>, End> {
+        self.next_reply()
+    }
 
     fn take(&mut self) -> Result<Reply<B>, End> {
-        let reply = self.head()?;
+        let reply = self.next_reply()?;
         self.taken += 1;
         self.last = reply.asked;
         Ok(reply)

@@ -1,14 +1,12 @@
-use Prim.Native.Nat.{_*_}
-use mathlib.Core.Path.{_∙_, ap}
-use native.Mathlib.Omega.{arith}
+use mathlib.Core.Path.{_∙_}
 use Rattle.pace.proofs.Doublings.{doubled-none, doubled-more, doubled-past}
 use Rattle.pace.proofs.doubled.doubled.Needs as need
 
 pub loop-holds : need.loop-holds
-loop-holds c = (doubled-none (c .args .wait), c .pre)
+loop-holds c = c .min-long .ensures ∙ doubled-none (c .args .wait)
 
 pub loop-again : need.loop-again
-loop-again c = (ap (λ n. n * 2) (c .loop .inv .0) ∙ doubled-more (c .args .wait) (c .loop .counter), omega arith)
+loop-again c = doubled-more (c .args .wait) (c .loop .counter) (c .loop .long) (c .loop .inv) (c .if-long .left)
 
 pub returns-then-long : need.returns-then-long
-returns-then-long c = doubled-past (c .args .wait) (c .loop .counter) (c .args .times) (c .loop .long) (c .loop .inv .0) (c .loop-test .taken) (c .if-long .taken)
+returns-then-long c = doubled-past (c .args .wait) (c .loop .counter) (c .args .times) (c .loop .long) (c .loop .inv) (c .loop-test .taken) (c .if-long .taken)

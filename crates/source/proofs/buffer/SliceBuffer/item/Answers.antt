@@ -1,6 +1,4 @@
-use borrow.Author.Needs.{needs}
 use mathlib.Core.Path.{sym, refl}
-use native.Mathlib.Omega.{arith}
 use Rattle.std.proofs.shelf.Maps.{nth-read, nth-past}
 use Rattle.source.proofs.buffer.SliceBuffer.item.Needs as need
 
