@@ -112,8 +112,9 @@ module _ {B : Type 0} where
   timely l r s x k e =
       subst (λ y. Timely (l .clock) (record { reply = y; misses = s .misses })) (sym e)
       (record {
-         asked = omega (arith, k .up .rises);
-         after = omega (arith, k .up .rises);
-         within = k .up .within;
-         known = omega (arith, k .known);
-         few = omega (arith, k .few-misses) })
+        asked = omega (arith, k .up .rises);
+        after = omega (arith, k .up .rises);
+        within = k .up .within;
+        known = omega (arith, k .known);
+        few = omega (arith, k .few-misses);
+      })

@@ -31,31 +31,31 @@ front-shorter i v small big fits =
 shown-last : (i v : ℕ) → v < 2 ^ 64 → length (decimal v) ≤ i + 1 → shown (i + 1) v ≡ front i (v / 10) ++ (48 + v % 10) ∷ []
 shown-last i v small fits =
     elim (cases-lt v 10) [
-        inl low ↦
-            let d : decimal v ≡ (48 + v) ∷ [] = decimal-digit v low in
-            let q : v / 10 ≡ 0 = omega arith in
-            let m : v % 10 ≡ v = omega arith in
-            let k : i + 1 - 1 ≡ i = omega arith in
-            rw (d, q, m, k)
+      | inl low ↦
+          let d : decimal v ≡ (48 + v) ∷ [] = decimal-digit v low in
+          let q : v / 10 ≡ 0 = omega arith in
+          let m : v % 10 ≡ v = omega arith in
+          let k : i + 1 - 1 ≡ i = omega arith in
+          rw (d, q, m, k)
       | inr big ↦
-            let d : decimal v ≡ decimal (v / 10) ++ (48 + v % 10) ∷ [] = decimal-step v big small in
-            let n : length (decimal v) ≡ length (decimal (v / 10)) + 1 = ap length d ∙ length-push (decimal (v / 10)) (48 + v % 10) in
-            let k : i + 1 - length (decimal v) ≡ i - length (decimal (v / 10)) = omega arith in
-            let t : ltb 0 (v / 10) ≡ true = lt-ltb 0 (v / 10) (omega arith) in
-            rw (k, d, t) (sym (append-assoc (replicate (i - length (decimal (v / 10))) 32) (decimal (v / 10)) ((48 + v % 10) ∷ [])))
+          let d : decimal v ≡ decimal (v / 10) ++ (48 + v % 10) ∷ [] = decimal-step v big small in
+          let n : length (decimal v) ≡ length (decimal (v / 10)) + 1 = ap length d ∙ length-push (decimal (v / 10)) (48 + v % 10) in
+          let k : i + 1 - length (decimal v) ≡ i - length (decimal (v / 10)) = omega arith in
+          let t : ltb 0 (v / 10) ≡ true = lt-ltb 0 (v / 10) (omega arith) in
+          rw (k, d, t) (sym (append-assoc (replicate (i - length (decimal (v / 10))) 32) (decimal (v / 10)) ((48 + v % 10) ∷ [])))
     ]
 
 front-last : (i v : ℕ) → v < 2 ^ 64 → (0 < v → length (decimal v) ≤ i + 1) → front (i + 1) v ≡ front i (v / 10) ++ lastByte v ∷ []
 front-last i v small fits =
     elim (cases-lt 0 v) [
-        inl some ↦ let t : ltb 0 v ≡ true = lt-ltb 0 v some in rw t (shown-last i v small (fits some))
+      | inl some ↦ let t : ltb 0 v ≡ true = lt-ltb 0 v some in rw t (shown-last i v small (fits some))
       | inr none ↦ let z : v ≡ 0 = omega arith in rw z (sym (replicate-more i 32))
     ]
 
 front-none : (v : ℕ) → v < 2 ^ 64 → (0 < v → length (decimal v) ≤ 0) → front 0 v ≡ []
 front-none v small fits =
     elim (cases-lt 0 v) [
-        inl some ↦ absurd (omega (arith, fits some, decimal-some v small))
+      | inl some ↦ absurd (omega (arith, fits some, decimal-some v small))
       | inr none ↦ let t : ltb 0 v ≡ false = le-ltb 0 v none in rw t
     ]
 
@@ -69,10 +69,11 @@ pub shown-begun : (out : List ℕ) (i v : ℕ) → v < 2 ^ 64 → i + 1 ≡ leng
     → ShownFrom (shown (length out) v) (set out i (48 + v % 10)) i (v / 10)
 shown-begun out i v small last fits =
     let d : drop i (set out i (48 + v % 10)) ≡ (48 + v % 10) ∷ [] =
-        drop-set out i (48 + v % 10) (omega arith) ∙ ap (λ t. (48 + v % 10) ∷ t) (drop-all (i + 1) out (omega arith)) in
+    drop-set out i (48 + v % 10) (omega arith) ∙ ap (λ t. (48 + v % 10) ∷ t) (drop-all (i + 1) out (omega arith)) in
     record {
       is = rw (d, ← last) (sym (shown-last i v small fits));
-      fits = λ some. front-shorter i v small (omega arith) fits }
+      fits = λ some. front-shorter i v small (omega arith) fits;
+    }
 
 pub shown-more : (whole out : List ℕ) (i v x : ℕ) → v < 2 ^ 64 → 0 < i → i ≤ length out → x ≡ lastByte v → ShownFrom whole out i v
     → ShownFrom whole (set out (i - 1) x) (i - 1) (v / 10)
@@ -86,7 +87,8 @@ shown-more whole out i v x small some within byte st =
           ∙ (ap (λ y. front j (v / 10) ++ (y ∷ drop (j + 1) out)) byte
           ∙ (sym (append-assoc (front j (v / 10)) (lastByte v ∷ []) (drop (j + 1) out))
           ∙ (ap (λ t. t ++ drop (j + 1) out) (sym (front-last j v small fits)) ∙ was)));
-      fits = λ h. front-shorter j v small (omega arith) (fits (omega arith)) }
+      fits = λ h. front-shorter j v small (omega arith) (fits (omega arith));
+    }
 
 pub shown-all : (whole out : List ℕ) (i v : ℕ) → v < 2 ^ 64 → i ≤ 0 → ShownFrom whole out i v → out ≡ whole
 shown-all whole out i v small none st =

@@ -72,8 +72,8 @@ returns g c =
     let v = viewOf (g .S·Source) a in
     record {
       value =
-        ap (λ x. Ok (record { reply = x; misses = s .misses })) (c .moved .ensures)
-        ∙ release-is m v (v .coming) r s (c .in-Continue-reply .ensures tt) (c .in-Some .ensures tt);
+          ap (λ x. Ok (record { reply = x; misses = s .misses })) (c .moved .ensures)
+          ∙ release-is m v (v .coming) r s (c .in-Continue-reply .ensures tt) (c .in-Some .ensures tt);
       after =
           view-is _ _ _ _ (l .opening) (s .tick) _ _ _ _ (c .take .ensures .rest) (c .take .ensures .mark)
           (misses-set (l .rows) (r .«class») s row is (k .short)) (omega (arith, releases-sum (l .rows) (r .«class») s row is (k .short)))
