@@ -1,13 +1,20 @@
 -- The gate that a job opens.
 use mathlib.Core.Path.{_≡_, refl, sym, _∙_, ap, subst}
 use mathlib.Core.List.{List}
+use mathlib.Core.Bool.{true, false, _&&_}
+use mathlib.Core.Logic.{_⊎_, inl, inr}
 use Prim.Native.Nat.{ℕ}
+use native.Mathlib.Omega.{arith}
+use lib.Dec.{leb}
+use Rattle.std.proofs.shelf.Tests.{cases-bool}
 use lib.ListN.{take, drop}
 use denote.Ref.{RefT}
 use Rattle.source.specs.declared.reply.Reply.{Reply}
 use Rattle.source.specs.declared.reply.End.the-variants.{Dry}
 use Rattle.source.specs.declared.trace.Trace.{Trace}
+use Rattle.source.specs.declared.fault.OutOfRange.{OutOfRange}
 use Rattle.source.specs.Replies.{beginning}
+use Rattle.source.specs.Settings.{checked}
 use Rattle.pace.specs.declared.steps.Steps.{Steps}
 use Rattle.pace.specs.Steps.{laddersOf}
 use Rattle.pace.specs.declared.rules.OwnRule.{OwnRule}
@@ -19,9 +26,21 @@ use Rattle.gate.specs.Rules.{Rules}
 use Rattle.gate.specs.Views.{View, opened, standingOf}
 use Rattle.page.specs.declared.line.PageFault.{PageFault}
 use Rattle.driver.specs.declared.replay.Replayed.{Replayed}
-use Rattle.std.specs.declared.result.Result.the-variants.{Ok}
+use Rattle.std.specs.declared.result.Result.the-variants.{Ok, Err}
 use Rattle.driver.specs.Replays.{Replays, ReplayLeaves}
 use Rattle.driver.specs.Jobs.{jobRules, jobView}
+
+-- a setting that was checked is the number itself
+pub checked-same : (lowest highest n m : ℕ) → Ok m ≡ checked lowest highest n → m ≡ n
+checked-same lowest highest n m e =
+    elim (cases-bool (leb lowest n && leb n highest))
+    [ inl t ↦ (let is : checked lowest highest n ≡ Ok n = rw (t, checked) refl in same (e ∙ is))
+    | inr t ↦ (let is : checked lowest highest n ≡ Err (record {}) = rw (t, checked) refl in absurd (never (e ∙ is))) ]
+  where
+    same : {a b : ℕ} → _≡_ {A = Result ℕ OutOfRange} (Ok a) (Ok b) → a ≡ b
+    same p = cc
+    never : {a : ℕ} {f : OutOfRange} → _≡_ {A = Result ℕ OutOfRange} (Ok a) (Err f) → ⊥
+    never p = let z : _≡_ {A = ℕ} 0 1 = cc in omega arith
 
 -- what a gate over a trace of replies shows
 abbrev pub traceView : Gate (Trace (RefT (List (Reply ℕ)))) Steps OwnRule → View ℕ

@@ -3,6 +3,7 @@ use Rattle.gate.specs.Rules.{Rules}
 use Rattle.gate.specs.Views.{viewOf, rulesIn}
 use Rattle.page.specs.Pages.{begun}
 use Rattle.driver.proofs.Driving.{replays}
+use Rattle.driver.proofs.Opened.{checked-same}
 use Rattle.driver.proofs.replay.replay.Needs as need
 
 pub returns : need.returns
@@ -14,7 +15,7 @@ returns g c =
       value =
           replays m v _ (c .in-Continue-page .page .tally) (c .fill-stop .last .page .tally) (c .args .buf .now) (c .fill-stop .last .buf) (c .close .last .buf)
           (g .P·Pace .quanta (c .pace .result .now)) (c .in-Ok-close .closed .rows) (c .length .result) (c .fill-stop .result)
-          (c .in-Continue-page .ensures tt .1 ∙ ap begun (c .in-Ok .ensures tt .0 ∙ c .clock .ensures .value))
+          (c .in-Continue-page .ensures tt .1 ∙ ap begun (checked-same 0 1000000000 (c .clock .result) (c .in-Ok .opening .tick) (c .in-Ok .ensures tt) ∙ c .clock .ensures .value))
           (c .fill-stop .ensures .fills)
           (ap (g .P·Pace .quanta) (c .pace .ensures) ∙ ap (λ (r : Rules). r .quantum) (c .fill-stop .ensures .same))
           (closed .0) (closed .1) (closed .2) (c .fill-stop .kept .buf) (c .length .ensures);
