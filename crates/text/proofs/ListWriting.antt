@@ -19,7 +19,7 @@ use Rattle.text.specs.declared.fault.ListFault.the-variants.{Room}
 use Rattle.text.specs.Columns.{listRow}
 use Rattle.text.specs.Rows.{fits}
 use Rattle.text.specs.Lists.{numbersOf, replyShown, listShown, listAnswer, listRead, over}
-use Rattle.text.specs.ListWriting.{checkAnswer, inRoom, writeAnswer}
+use Rattle.text.specs.ListWriting.{checkAnswer, inRoom, listWriteAnswer}
 use Rattle.text.proofs.RowWriting.{grow, part-written}
 use Rattle.text.proofs.ListFiles.{list-back, list-only}
 use Rattle.text.proofs.ListChecking.{blank, checked, list-fits}
@@ -71,5 +71,5 @@ module _ (rs : List (Reply ℕ)) (old out : List ℕ) (i : ℕ) (h : i ≡ lengt
       )
 
 -- the answer where the list has room
-pub wrote : (rs : List (Reply ℕ)) (room : ℕ) (u : Unit {0}) → Ok u ≡ checkAnswer rs → 35 * length rs ≤ room → Ok (35 * length rs) ≡ writeAnswer rs room
+pub wrote : (rs : List (Reply ℕ)) (room : ℕ) (u : Unit {0}) → Ok u ≡ checkAnswer rs → 35 * length rs ≤ room → Ok (35 * length rs) ≡ listWriteAnswer rs room
 wrote rs room u e h = sym (rw (le-leb (35 * length rs) room h, inRoom)) ∙ ap (inRoom rs room) e

@@ -1,8 +1,8 @@
 -- Writing list files. Nothing is assumed.
---   checkAnswer   a list may be written where it is lawful and has at most 50,000 replies; else the fault
---   writeAnswer   the bytes written, or the fault: the list is judged before the room
---   ListWritten   what a writing leaves
---   ReadsBack     what was written reads as the replies, and no other bytes do
+--   checkAnswer       a list may be written where it is lawful and has at most 50,000 replies; else the fault
+--   listWriteAnswer   the bytes written, or the fault: the list is judged before the room
+--   ListWritten       what a writing leaves
+--   ReadsBack         what was written reads as the replies, and no other bytes do
 use mathlib.Core.Path.{_≡_}
 use mathlib.Core.Bool.{true, false}
 use mathlib.Core.List.{List, [], _∷_}
@@ -40,8 +40,8 @@ abbrev pub inRoom : List (Reply ℕ) → ℕ → Result (Unit {0}) FileFault →
 inRoom rs room (Ok u) = elim (leb (35 * length rs) room) [ true ↦ Ok (35 * length rs) | false ↦ Err Room ]
 inRoom rs room (Err f) = Err (File f)
 
-abbrev pub writeAnswer : List (Reply ℕ) → ℕ → Result ℕ ListFault
-writeAnswer rs room = inRoom rs room (checkAnswer rs)
+abbrev pub listWriteAnswer : List (Reply ℕ) → ℕ → Result ℕ ListFault
+listWriteAnswer rs room = inRoom rs room (checkAnswer rs)
 
 -- a refused writing leaves the buffer as it was, and a writing what lies after the list
 abbrev pub ListWritten : List (Reply ℕ) → List ℕ → List ℕ → Result ℕ ListFault → Type 0

@@ -8,7 +8,7 @@ ghost use Rattle.text.specs.Columns.{listRow};
 ghost use Rattle.text.specs.Rows.{fits};
 ghost use Rattle.text.specs.Files.{ending, readRows};
 ghost use Rattle.text.specs.Lists.{numbersOf, replyShown, replyRead, listStep, listAnswer, listRead, ListExact, over};
-ghost use Rattle.text.specs.ListWriting.{checkAnswer, writeAnswer, ListWritten, ReadsBack};
+ghost use Rattle.text.specs.ListWriting.{checkAnswer, listWriteAnswer, ListWritten, ReadsBack};
 use super::fault::FileFault;
 use super::fault::FileFromRow;
 use super::fault::ListFault;
@@ -113,7 +113,7 @@ fn write_reply(reply: Reply<u32>, row: &mut [u8])
 
 // Writes a lawful list to the front of `out`, and answers how many bytes it has. Refused, it writes nothing.
 pub fn write_list(records: &[Reply<u32>], out: &mut [u8]) -> Result<usize, ListFault>
-    ensures value { λ r. ⌜ r ≡ writeAnswer (now (records .entry)) (length (now (out .entry))) ⌝ }
+    ensures value { λ r. ⌜ r ≡ listWriteAnswer (now (records .entry)) (length (now (out .entry))) ⌝ }
     ensures after { λ r. ⌜ ListWritten (now (records .entry)) (now (out .entry)) (now (out .exit)) r ⌝ }
     ensures back { λ r. ⌜ ReadsBack (now (records .entry)) (now (out .exit)) r ⌝ }
 {
