@@ -10,9 +10,9 @@ use Rattle.std.proofs.shelf.Tests.{cases-eq}
 use Rattle.source.specs.declared.bench.Job.{Job}
 use Rattle.source.specs.declared.bench.Shift.{Shift}
 use Rattle.source.specs.Replies.{LawfulFrom}
-use Rattle.source.specs.Benches.{earliest, shiftOf, shiftAnswer, freed, plan, replies, Idle, Planned, Plan}
+use Rattle.source.specs.Benches.{earliest, shiftOf, shiftAnswer, freed, plan, planMark, replies, Idle, Planned, Plan}
 use Rattle.source.proofs.Earliest.{FirstUpTo, earliest-first}
-use Rattle.source.proofs.Shifts.{cases-result, Taken, answer-taken, plan-taken, plan-over}
+use Rattle.source.proofs.Shifts.{cases-result, Taken, answer-taken, answer-over, plan-taken, plan-over, mark-taken, mark-over}
 
 module _ {B : Type 0} where
   taken-ready : (last : ℕ) (free : List ℕ) (j : Job B) (x : Shift B) → Taken last free j x → (x .reply .asked ≡ j .asked) × (x .reply .«class» ≡ j .«class») × (j .asked ≤ x .reply .ready)
@@ -82,16 +82,35 @@ module _ {B : Type 0} where
           ];
         }
 
-  pub plan-kept : (n last : ℕ) (free : List ℕ) (before : List (Shift B)) (js : List (Job B)) → length free ≡ n → 0 < n → FreeAfter free before → Plan n before js (plan last free js)
-  plan-kept n last free before [] long some f = tt
+  -- a job that would be ready past the horizon would be so on every server
+  module _ (free : List ℕ) (before : List (Shift B)) (f : FreeAfter free before) (some : 0 < length free) (j : Job B) where
+    pub late-anyway : 1000000000 < shiftOf free j .reply .ready → (x : Shift B) → Planned (length free) before j x → 1000000000 < x .reply .ready
+    late-anyway late x p =
+        let ready : x .reply .ready ≡ x .start + j .work = ap (λ y. y .reply .ready) (p .works) in
+        let first = planned free before f some j .soonest (x .server) (x .start) (p .known) (p .asked-first) (p .alone) in
+        omega arith
+
+  pub plan-kept : (n last : ℕ) (free : List ℕ) (before : List (Shift B)) (js : List (Job B)) → length free ≡ n → 0 < n → FreeAfter free before
+      → Plan n before last js (plan last free js) (planMark last free js)
+  plan-kept n last free before [] long some f = refl
   plan-kept n last free before (j ∷ js) long some f =
       let some-free : 0 < length free = omega arith in
       elim (cases-result (shiftAnswer last free j)) [
-        | inl (x, e) ↦ rw (plan-taken last free j js x e, answer-taken last free j x e .is) (
-          subst (λ m. Planned m before j (shiftOf free j)) long (planned free before f some-free j),
-          plan-kept n (j .asked) (freed free (shiftOf free j)) (shiftOf free j ∷ before) js (free-length free before f some-free j ∙ long) some (free-next free before f some-free j),
-        )
-        | inr (m, e) ↦ rw (plan-over last free j js m e) tt
+        | inl (x, e) ↦
+            let t = answer-taken last free j x e in
+            let in-time : shiftOf free j .reply .ready ≤ 1000000000 = subst (λ y. y .reply .ready ≤ 1000000000) (t .is) (t .in-time) in
+            rw (plan-taken last free j js x e, mark-taken last free j js x e, t .is) (
+              t .in-range,
+              subst (λ m. Planned m before j (shiftOf free j)) long (planned free before f some-free j),
+              in-time,
+              plan-kept n (j .asked) (freed free (shiftOf free j)) (shiftOf free j ∷ before) js (free-length free before f some-free j ∙ long) some (free-next free before f some-free j),
+            )
+        | inr (m, e) ↦
+            rw (plan-over last free j js m e, mark-over last free j js m e) (
+            elim (answer-over last free j m e) [
+              | inl dry ↦ inl dry
+              | inr late ↦ inr (late .0, late .1, subst (λ k. (x : Shift B) → Planned k before j x → 1000000000 < x .reply .ready) long (late-anyway free before f some-free j (late .2)))
+            ])
       ]
 
   -- at the start every server is free at tick 0

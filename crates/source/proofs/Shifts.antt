@@ -13,14 +13,14 @@ use Rattle.std.specs.declared.result.Result.the-variants.{Ok, Err}
 use Rattle.std.specs.Vec.{made}
 use Rattle.std.specs.shelf.Maps.{nth}
 use Rattle.std.proofs.shelf.Lists.{drop-drop, getD-take}
-use Rattle.std.proofs.shelf.Tests.{and-parts, cases-bool, leb-true, le-leb, lt-leb}
+use Rattle.std.proofs.shelf.Tests.{and-parts, cases-bool, both-ways, leb-true, leb-false, le-leb, lt-leb}
 use Rattle.source.specs.declared.reply.End.{End}
 use Rattle.source.specs.declared.reply.End.the-variants.{Dry, Horizon}
 use Rattle.source.specs.declared.bench.Job.{Job}
 use Rattle.source.specs.declared.bench.Shift.{Shift}
 use Rattle.source.specs.declared.bench.Bench.{Bench}
-use Rattle.source.specs.declared.servers.Servers.{Servers}
-use Rattle.source.specs.Benches.{freeOf, earliest, jobFollows, worked, shiftOf, shiftAnswer, freed, plan, planMark, firstShift, shifts, shiftsMark, NextOf}
+use Rattle.source.specs.declared.bench.Servers.{Servers}
+use Rattle.source.specs.Benches.{freeOf, earliest, InRange, jobFollows, worked, shiftOf, shiftAnswer, freed, plan, planMark, firstShift, shifts, shiftsMark, NextOf}
 use Rattle.source.proofs.Places.{drop-some, drop-none}
 
 pub cases-result : {X Y : Type 0} (r : Result X Y) → ((x : X) × (r ≡ Ok x)) ⊎ ((y : Y) × (r ≡ Err y))
@@ -38,13 +38,6 @@ pub kept-start : (s : Servers) (server asked start : ℕ) → server < s .number
 kept-start s server asked start known from = from ∙ ap (max asked) (sym (getD-take (s .number .count) (s .free) server 0 known))
 
 module _ {B : Type 0} where
-  -- a job that may follow one asked at `last`
-  pub record InRange (last : ℕ) (j : Job B) : Type 0 where
-    pub rises : last ≤ j .asked
-    pub within : j .asked ≤ 1000000000
-    pub known : j .«class» ≤ 7
-    pub little : j .work ≤ 1000000
-
   pub job-in-range : (last : ℕ) (j : Job B) → jobFollows last j ≡ true → InRange last j
   job-in-range last j e =
       let p = and-parts (leb last (j .asked)) _ e in
@@ -70,6 +63,27 @@ module _ {B : Type 0} where
 
     pub shift-late : 1000000000 < start + j .work → Err Horizon ≡ shiftAnswer last free j
     shift-late h = rw (ok, lt-leb (shiftOf free j .reply .ready) 1000000000 (omega (arith, its-ready)), shiftAnswer) refl
+
+  -- a job whose shift is not taken
+  pub in-range-follows : (last : ℕ) (j : Job B) → InRange last j → jobFollows last j ≡ true
+  in-range-follows last j f = rw (le-leb last (j .asked) (f .rises), le-leb (j .asked) 1000000000 (f .within), le-leb (j .«class») 7 (f .known), le-leb (j .work) 1000000 (f .little)) refl
+
+  pub answer-over : (last : ℕ) (free : List ℕ) (j : Job B) (m : End) → shiftAnswer last free j ≡ Err m
+      → ((m ≡ Dry) × (InRange last j → ⊥)) ⊎ ((m ≡ Horizon) × InRange last j × (1000000000 < shiftOf free j .reply .ready))
+  answer-over last free j m h =
+      elim (cases-bool (jobFollows last j)) [
+        | inl ok ↦ elim (cases-bool (leb (shiftOf free j .reply .ready) 1000000000)) [
+          | inl le ↦ let given : shiftAnswer last free j ≡ Ok (shiftOf free j) = rw (ok, le, shiftAnswer) refl in absurd (never (sym given ∙ h))
+          | inr gt ↦ let late : shiftAnswer last free j ≡ Err Horizon = rw (ok, gt, shiftAnswer) refl in inr (same (sym h ∙ late), job-in-range last j ok, leb-false (shiftOf free j .reply .ready) 1000000000 gt)
+        ]
+        | inr bad ↦ let dry : shiftAnswer last free j ≡ Err Dry = rw (bad, shiftAnswer) refl in inl (same (sym h ∙ dry), λ f. both-ways (jobFollows last j) bad (in-range-follows last j f))
+      ]
+    where
+      never : {x : Shift B} → _≡_ {A = Result (Shift B) End} (Ok x) (Err m) → ⊥
+      never p = let z : _≡_ {A = ℕ} 0 1 = cc in omega arith
+
+      same : {d : End} → _≡_ {A = Result (Shift B) End} (Err m) (Err d) → m ≡ d
+      same p = cc
 
   -- a job whose shift is taken
   pub record Taken (last : ℕ) (free : List ℕ) (j : Job B) (x : Shift B) : Type 0 where

@@ -6,11 +6,13 @@
 --   planMark     how the list ends
 --   shifts       the plan of the first 50,000 jobs of a bench, less those taken
 --   Idle         a server whose earlier shifts are over at a tick
---   Planned      what a plan keeps: no server works on two jobs at once, each job starts at the earliest tick that
+--   Planned      a shift as it should be: its server works on no other job, the job starts at the earliest tick that
 --                some server allows, and is ready after its work
+--   Plan         what a plan keeps: each shift is Planned, in time and of a job in range, and it ends only where it must
 use mathlib.Core.Path.{_≡_}
 use mathlib.Core.Bool.{Bool, true, false, _&&_}
 use mathlib.Core.List.{List, [], _∷_, map}
+use mathlib.Core.Logic.{_⊎_}
 use Prim.Native.Nat.{ℕ, suc, _+_, _<_, _≤_, max}
 use lib.Dec.{leb}
 use lib.ListN.{getD, set, take, drop}
@@ -22,7 +24,7 @@ use Rattle.source.specs.declared.reply.End.the-variants.{Dry, Horizon}
 use Rattle.source.specs.declared.bench.Job.{Job}
 use Rattle.source.specs.declared.bench.Shift.{Shift}
 use Rattle.source.specs.declared.bench.Bench.{Bench}
-use Rattle.source.specs.declared.servers.Servers.{Servers}
+use Rattle.source.specs.declared.bench.Servers.{Servers}
 use Rattle.source.specs.Replies.{horizon}
 
 abbrev pub freeOf : Servers → List ℕ
@@ -33,7 +35,14 @@ earliest [] = 0
 earliest (t ∷ ts) = elim (leb t (getD ts (earliest ts) t)) [ true ↦ 0 | false ↦ suc (earliest ts) ]
 
 module _ {B : Type 0} where
-  -- whether a job is in range and may follow one asked at `last`
+  -- a job in range that may follow one asked at `last`
+  pub record InRange (last : ℕ) (j : Job B) : Type 0 where
+    pub rises : last ≤ j .asked
+    pub within : j .asked ≤ horizon
+    pub known : j .«class» ≤ 7
+    pub little : j .work ≤ 1000000
+
+  -- whether a job is so
   abbrev pub jobFollows : ℕ → Job B → Bool
   jobFollows last j = leb last (j .asked) && (leb (j .asked) horizon && (leb (j .«class») 7 && leb (j .work) 1000000))
 
@@ -103,8 +112,17 @@ module _ {B : Type 0} where
     pub alone : Idle before (x .server) (x .start)
     pub soonest : (s t : ℕ) → s < servers → j .asked ≤ t → Idle before s t → x .start ≤ t
 
-  -- shifts of the first jobs, in order
-  abbrev pub Plan : ℕ → List (Shift B) → List (Job B) → List (Shift B) → Type 0
-  Plan servers before js [] = Unit {0}
-  Plan servers before [] (x ∷ xs) = ⊥
-  Plan servers before (j ∷ js) (x ∷ xs) = Planned servers before j x × Plan servers (x ∷ before) js xs
+  -- how a plan ends: with the last job; before one out of range or asked earlier than `last`, the one before it; or
+  -- before one that would be ready past the horizon
+  abbrev pub Ends : ℕ → List (Shift B) → ℕ → List (Job B) → End → Type 0
+  Ends servers before last [] m = m ≡ Dry
+  Ends servers before last (j ∷ js) m =
+      ((m ≡ Dry) × (InRange last j → ⊥))
+      ⊎ ((m ≡ Horizon) × InRange last j × ((x : Shift B) → Planned servers before j x → horizon < x .reply .ready))
+
+  -- the shifts of the first jobs, in order, and how they end
+  abbrev pub Plan : ℕ → List (Shift B) → ℕ → List (Job B) → List (Shift B) → End → Type 0
+  Plan servers before last js [] m = Ends servers before last js m
+  Plan servers before last [] (x ∷ xs) m = ⊥
+  Plan servers before last (j ∷ js) (x ∷ xs) m =
+      InRange last j × Planned servers before j x × (x .reply .ready ≤ horizon) × Plan servers (x ∷ before) (j .asked) js xs m

@@ -2,9 +2,9 @@
 ghost use mathlib.Core.Path.{_≡_};
 ghost use mathlib.Core.List.{[]};
 ghost use Prim.Native.Nat.{_<_};
-ghost use lib.ListN.{take, replicate};
+ghost use lib.ListN.{take, set, replicate};
 ghost use Rattle.std.specs.Vec.{made};
-ghost use Rattle.source.specs.Benches.{freeOf, jobFollows, shiftAnswer, shifts, shiftsMark, replies, firstShift, NextOf, Plan};
+ghost use Rattle.source.specs.Benches.{freeOf, earliest, jobFollows, shiftAnswer, shifts, shiftsMark, replies, firstShift, NextOf, Plan};
 use super::Source;
 use super::buffer::Buffer;
 use super::reply::End;
@@ -12,7 +12,6 @@ use super::reply::HORIZON;
 use super::reply::LAST_CLASS;
 use super::reply::Reply;
 use super::reply::ReplyClone;
-use super::servers::Servers;
 use super::setting::ServerCount;
 
 // The most work of a job.
@@ -39,12 +38,54 @@ impl<B> Job<B> {
     }
 }
 
+// How many servers there are, and the tick at which each of them is free.
+#[derive(Clone, Copy)]
+struct Servers {
+    number: ServerCount,
+    free: [u32; 4],
+}
+
+impl Servers {
+    // Servers that are all free at tick 0.
+    fn new(number: ServerCount) -> Servers
+        ensures { λ r. ⌜ r ≡ record { number = number; free = replicate 4 0 } ⌝ }
+    {
+        Servers {
+            number,
+            free: [0; 4],
+        }
+    }
+
+    // The server that is free earliest, the lowest-numbered on a tie.
+    fn earliest(&self) -> usize
+        ensures value { λ r. ⌜ r ≡ earliest (freeOf (now (self .entry))) ⌝ }
+        ensures known { λ r. ⌜ r < now (self .entry) .number .count ⌝ }
+    {
+        let mut first = 0;
+        for server in 1..self.number.count {
+            if self.free[server] < self.free[first] {
+                first = server;
+            }
+        }
+        first
+    }
+
+    // Keeps a server busy up to a tick.
+    fn occupy(&mut self, server: usize, until: u32)
+        requires { ⌜ server < now self .number .count ⌝ }
+        ensures after { λ _. ⌜ freeOf (now (self .exit)) ≡ set (freeOf (now (self .entry))) server until ⌝ }
+        ensures same { λ _. ⌜ now (self .exit) .number ≡ now (self .entry) .number ⌝ }
+    {
+        self.free[server] = until;
+    }
+}
+
 // A job on its server: when it starts, and the reply that it gives.
 #[derive(Clone, Copy)]
-pub struct Shift<B> {
-    pub(crate) server: usize,
-    pub(crate) start: u32,
-    pub(crate) reply: Reply<B>,
+struct Shift<B> {
+    server: usize,
+    start: u32,
+    reply: Reply<B>,
 }
 
 // The jobs, how many were taken, the asked tick of the last one taken, and the servers.
@@ -60,7 +101,7 @@ impl<B: Copy, J: Buffer<Item = Job<B>>> Bench<J> {
     // A bench for the first 50,000 jobs.
     pub fn new(jobs: J, servers: ServerCount) -> Bench<J>
         ensures value { λ b. ⌜ b ≡ record { jobs = jobs; taken = 0; last = 0; servers = record { number = servers; free = replicate 4 0 } } ⌝ }
-        ensures planned { λ b. ⌜ Plan (servers .count) [] (take 50000 (J·Buffer .items jobs)) (shifts (J·Buffer .items (b .jobs)) b) ⌝ }
+        ensures planned { λ b. ⌜ Plan (servers .count) [] 0 (take 50000 (J·Buffer .items jobs)) (shifts (J·Buffer .items (b .jobs)) b) (shiftsMark (J·Buffer .items (b .jobs)) b) ⌝ }
     {
         Bench {
             jobs,

@@ -14,7 +14,6 @@ pub mod bucket;
 pub mod buffer;
 pub mod fault;
 pub mod reply;
-mod servers;
 pub mod setting;
 pub mod trace;
 

@@ -1,8 +1,0 @@
-use mathlib.Core.Path.{refl}
-use Rattle.source.proofs.Shifts.{take-set}
-use Rattle.source.proofs.servers.Servers.occupy.Needs as need
-
-pub returns : need.returns
-returns c =
-    let s = c .args .self .now in
-    record { free = take-set (s .number .count) (s .free) (c .args .server) (c .args .until); number = refl }
