@@ -33,12 +33,14 @@ use Rattle.driver.specs.Jobs.{jobRules, jobView}
 -- a setting that was checked is the number itself
 pub checked-same : (lowest highest n m : ℕ) → Ok m ≡ checked lowest highest n → m ≡ n
 checked-same lowest highest n m e =
-    elim (cases-bool (leb lowest n && leb n highest))
-    [ inl t ↦ (let is : checked lowest highest n ≡ Ok n = rw (t, checked) refl in same (e ∙ is))
-    | inr t ↦ (let is : checked lowest highest n ≡ Err (record {}) = rw (t, checked) refl in absurd (never (e ∙ is))) ]
+    elim (cases-bool (leb lowest n && leb n highest)) [
+      | inl t ↦ (let is : checked lowest highest n ≡ Ok n = rw (t, checked) refl in same (e ∙ is))
+      | inr t ↦ (let is : checked lowest highest n ≡ Err (record {}) = rw (t, checked) refl in absurd (never (e ∙ is)))
+    ]
   where
     same : {a b : ℕ} → _≡_ {A = Result ℕ OutOfRange} (Ok a) (Ok b) → a ≡ b
     same p = cc
+
     never : {a : ℕ} {f : OutOfRange} → _≡_ {A = Result ℕ OutOfRange} (Ok a) (Err f) → ⊥
     never p = let z : _≡_ {A = ℕ} 0 1 = cc in omega arith
 

@@ -11,8 +11,6 @@ mod ladder;
 mod quantum;
 pub mod rules;
 pub mod steps;
-#[cfg(test)]
-mod tests;
 
 // The largest quantum, and the quantum of a class that was given none.
 pub const LARGEST_QUANTUM: u32 = 1_000_000;

@@ -1,3 +1,13 @@
-// Worked examples: what the whole job prints, with values worked by hand from the rules.
+// Worked examples: every layer run on cases whose answers were worked out by hand from the rules.
+#[cfg(test)]
+mod benches;
+#[cfg(test)]
+mod buckets;
 #[cfg(test)]
 mod jobs;
+#[cfg(test)]
+mod paces;
+#[cfg(test)]
+mod texts;
+#[cfg(test)]
+mod traces;

@@ -8,5 +8,3 @@ pub mod list;
 pub mod pair;
 pub mod row;
 pub mod schedule;
-#[cfg(test)]
-mod tests;

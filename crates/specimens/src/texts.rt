@@ -1,47 +1,56 @@
-// Worked examples of each file's form. Expected values are worked out by hand.
-use super::fault::FileFault;
-use super::fault::FileFaultDebug;
-use super::fault::FileFaultPartialEq;
-use super::fault::ListFaultDebug;
-use super::fault::Numbered;
-use super::fault::Refusal;
-use super::fault::RefusalDebug;
-use super::fault::RefusalPartialEq;
-use super::fault::RowFault;
-use super::field::FieldFault;
-use super::field::FieldFaultDebug;
-use super::field::FieldFaultPartialEq;
-use super::field::read_field;
-use super::list::read_list;
-use super::list::write_list;
-use super::pair::NoStep;
-use super::pair::NoStepDebug;
-use super::pair::NoStepPartialEq;
-use super::pair::pair;
-use super::schedule::read_schedule;
+// Rows, lists and schedules.
 use pace::fault::StepFault;
 use pace::steps::Steps;
 use source::reply::Reply;
 use source::reply::ReplyDebug;
 use source::reply::ReplyPartialEq;
 use std::test::*;
+use text::fault::FileFault;
+use text::fault::FileFaultDebug;
+use text::fault::FileFaultPartialEq;
+use text::fault::ListFaultDebug;
+use text::fault::Numbered;
+use text::fault::Refusal;
+use text::fault::RefusalDebug;
+use text::fault::RefusalPartialEq;
+use text::fault::RowFault;
+use text::fault::RowFaultDebug;
+use text::fault::RowFaultPartialEq;
+use text::field::FieldFault;
+use text::layout::REFUSAL_LINE;
+use text::list::read_list;
+use text::list::write_list;
+use text::pair::NoStep;
+use text::pair::NoStepDebug;
+use text::pair::NoStepPartialEq;
+use text::pair::pair;
+use text::schedule::read_schedule;
+
+// A line of four fields of six columns is refused for a field's form.
+fn refuses_form(line: &[u8], number: u32) -> Result<(), Fail> {
+    let fault = FieldFault::Form;
+    check_eq(
+        REFUSAL_LINE.read(line),
+        Err(RowFault::Field(Numbered { number, fault })),
+    )
+}
 
 #[test]
 fn a_field_is_spaces_and_then_digits() -> Result<(), Fail> {
-    check_eq(read_field(b"     7", 9), Ok(7))?;
-    check_eq(read_field(b"     0", 9), Ok(0))?;
-    check_eq(read_field(b"123456", 123_456), Ok(123_456))?;
-    check_eq(read_field(b"    10", 9), Err(FieldFault::Limit))?;
     check_eq(
-        read_field(b"99999999999", 4_294_967_295),
-        Err(FieldFault::Limit),
+        REFUSAL_LINE.read(b"     7     0123456    10\n"),
+        Ok([7, 0, 123_456, 10]),
     )?;
-    check_eq(read_field(b"      ", 9), Err(FieldFault::Form))?;
-    check_eq(read_field(b"    07", 9), Err(FieldFault::Form))?;
-    check_eq(read_field(b"    7 ", 9), Err(FieldFault::Form))?;
-    check_eq(read_field(b"   1 2", 9), Err(FieldFault::Form))?;
-    check_eq(read_field(b"    -7", 9), Err(FieldFault::Form))?;
-    check_eq(read_field(b"", 9), Err(FieldFault::Form))
+    refuses_form(b"    07     0123456    10\n", 1)?;
+    refuses_form(b"     7      123456    10\n", 2)?;
+    refuses_form(b"     7     0  1 23    10\n", 3)?;
+    refuses_form(b"     7     0123456   10 \n", 4)?;
+    refuses_form(b"    -7     0123456    10\n", 1)?;
+    refuses_form(b"     7     0123456    1", 4)?;
+    check_eq(
+        REFUSAL_LINE.read(b"     7     0123456    10\n\n"),
+        Err(RowFault::Newline),
+    )
 }
 
 #[test]

@@ -1,23 +1,23 @@
-// Worked examples.
-use super::Pace;
-use super::Penalty;
-use super::doubling::Doubling;
-use super::doubling::DoublingPace;
-use super::fault::QuantumFault;
-use super::fault::QuantumFaultDebug;
-use super::fault::QuantumFaultPartialEq;
-use super::fault::StepFault;
-use super::fault::StepFaultDebug;
-use super::fault::StepFaultPartialEq;
-use super::fault::UnknownClass;
-use super::fault::UnknownClassDebug;
-use super::fault::UnknownClassPartialEq;
-use super::rules::OwnRule;
-use super::rules::OwnRulePenalty;
-use super::rules::SharedRule;
-use super::rules::SharedRulePenalty;
-use super::steps::Steps;
-use super::steps::StepsPace;
+// Paces and penalty rules.
+use pace::Pace;
+use pace::Penalty;
+use pace::doubling::Doubling;
+use pace::doubling::DoublingPace;
+use pace::fault::QuantumFault;
+use pace::fault::QuantumFaultDebug;
+use pace::fault::QuantumFaultPartialEq;
+use pace::fault::StepFault;
+use pace::fault::StepFaultDebug;
+use pace::fault::StepFaultPartialEq;
+use pace::fault::UnknownClass;
+use pace::fault::UnknownClassDebug;
+use pace::fault::UnknownClassPartialEq;
+use pace::rules::OwnRule;
+use pace::rules::OwnRulePenalty;
+use pace::rules::SharedRule;
+use pace::rules::SharedRulePenalty;
+use pace::steps::Steps;
+use pace::steps::StepsPace;
 use std::test::*;
 
 #[test]
