@@ -50,14 +50,19 @@ module _ {B : Type 0} where
     first : FirstUpTo free (length free) (earliest free)
     first = earliest-first free some
 
+    idle-first : Idle before (earliest free) (getD free (earliest free) 0)
+    idle-first = f .idle (earliest free) (first .known)
+
     pub planned : Planned (length free) before j (shiftOf free j)
     planned =
         record {
           known = first .known;
           works = refl;
           asked-first = omega arith;
-          alone = idle-later before (earliest free) (getD free (earliest free) 0) (shiftOf free j .start) (omega arith) (f .idle (earliest free) (first .known));
+          alone = idle-later before (earliest free) (getD free (earliest free) 0) (shiftOf free j .start) (omega arith) idle-first;
           soonest = λ s t known asked idle. omega (arith, f .soonest s t known idle, first .least s known);
+          freest = λ s t known idle. idle-later before (earliest free) (getD free (earliest free) 0) t (omega (arith, f .soonest s t known idle, first .least s known)) idle-first;
+          lowest = λ s below as-early. omega (arith, first .lowest s below, f .soonest s (getD free (earliest free) 0) (omega (arith, first .known)) (as-early (getD free (earliest free) 0) idle-first));
         }
 
     here : getD (freed free (shiftOf free j)) (earliest free) 0 ≡ shiftOf free j .reply .ready
@@ -73,7 +78,7 @@ module _ {B : Type 0} where
     free-next =
         record {
           idle = λ s h. elim (cases-eq s (earliest free)) [
-            | inl e ↦ rw (e, here) ((λ _. omega arith), idle-later before (earliest free) (getD free (earliest free) 0) (shiftOf free j .reply .ready) (omega arith) (f .idle (earliest free) (first .known)))
+            | inl e ↦ rw (e, here) ((λ _. omega arith), idle-later before (earliest free) (getD free (earliest free) 0) (shiftOf free j .reply .ready) (omega arith) idle-first)
             | inr ne ↦ rw (there s ne) ((λ e. absurd (ne (sym e))), f .idle s (omega (arith, free-length)))
           ];
           soonest = λ s t h i. elim (cases-eq s (earliest free)) [

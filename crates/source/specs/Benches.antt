@@ -7,7 +7,8 @@
 --   shifts       the plan of the first 50,000 jobs of a bench, less those taken
 --   Idle         a server whose earlier shifts are over at a tick
 --   Planned      a shift as it should be: its server works on no other job, the job starts at the earliest tick that
---                some server allows, and is ready after its work
+--                some server allows, and is ready after its work; its server is idle whenever another is, and none
+--                with a lower number is so
 --   Plan         what a plan keeps: each shift is Planned, in time and of a job in range, and it ends only where it must
 use mathlib.Core.Path.{_≡_}
 use mathlib.Core.Bool.{Bool, true, false, _&&_}
@@ -111,6 +112,8 @@ module _ {B : Type 0} where
     pub asked-first : j .asked ≤ x .start
     pub alone : Idle before (x .server) (x .start)
     pub soonest : (s t : ℕ) → s < servers → j .asked ≤ t → Idle before s t → x .start ≤ t
+    pub freest : (s t : ℕ) → s < servers → Idle before s t → Idle before (x .server) t
+    pub lowest : (s : ℕ) → s < x .server → ((t : ℕ) → Idle before (x .server) t → Idle before s t) → ⊥
 
   -- how a plan ends: with the last job; before one out of range or asked earlier than `last`, the one before it; or
   -- before one that would be ready past the horizon
