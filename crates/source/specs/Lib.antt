@@ -3,4 +3,3 @@ pub mod Traces
 pub mod Refusals
 pub mod Settings
 pub mod Buckets
-pub mod Benches

@@ -8,7 +8,6 @@ ghost use Rattle.source.specs.Replies.{Lawful, first, rest};
 use reply::End;
 use reply::Reply;
 
-pub mod bench;
 pub mod body;
 pub mod bucket;
 pub mod buffer;

@@ -1,8 +1,9 @@
 // Benches.
+use bench::Bench;
+use bench::BenchSource;
+use bench::Job;
+use bench::setting::ServerCount;
 use source::Source;
-use source::bench::Bench;
-use source::bench::BenchSource;
-use source::bench::Job;
 use source::body::Place;
 use source::body::PlaceDebug;
 use source::body::PlacePartialEq;
@@ -16,7 +17,6 @@ use source::reply::EndPartialEq;
 use source::reply::Reply;
 use source::reply::ReplyDebug;
 use source::reply::ReplyPartialEq;
-use source::setting::ServerCount;
 use std::test::*;
 
 fn job(asked: u32, work: u32) -> Job<Word> {

@@ -1,8 +1,8 @@
 use mathlib.Core.Path.{_≡_, subst}
 use native.Mathlib.Omega.{arith}
-use Rattle.source.proofs.Earliest.{FirstUpTo, first-one, first-stays, first-moves, found-earliest}
-use Rattle.source.proofs.bench.Servers.earliest.Needs as need
-use Rattle.source.proofs.bench.Servers.earliest.Needs.{then-self-server, else-self-server}
+use Rattle.bench.proofs.Earliest.{FirstUpTo, first-one, first-stays, first-moves, found-earliest}
+use Rattle.bench.proofs.Servers.earliest.Needs as need
+use Rattle.bench.proofs.Servers.earliest.Needs.{then-self-server, else-self-server}
 
 pub loop-server-holds : need.loop-server-holds
 loop-server-holds c = first-one (c .args .self .now .free)

@@ -1,6 +1,6 @@
 use mathlib.Core.Path.{refl}
-use Rattle.source.proofs.Shifts.{take-set}
-use Rattle.source.proofs.bench.Servers.occupy.Needs as need
+use Rattle.bench.proofs.Shifts.{take-set}
+use Rattle.bench.proofs.Servers.occupy.Needs as need
 
 pub returns : need.returns
 returns c =

@@ -7,12 +7,12 @@ use native.Mathlib.Omega.{arith}
 use lib.ListN.{length, getD, replicate}
 use Rattle.std.proofs.shelf.Lists.{getD-set-same, getD-set-other, getD-replicate, length-set, length-replicate}
 use Rattle.std.proofs.shelf.Tests.{cases-eq}
-use Rattle.source.specs.declared.bench.Job.{Job}
-use Rattle.source.specs.declared.bench.Shift.{Shift}
+use Rattle.bench.specs.declared.Job.{Job}
+use Rattle.bench.specs.declared.Shift.{Shift}
 use Rattle.source.specs.Replies.{LawfulFrom}
-use Rattle.source.specs.Benches.{earliest, shiftOf, shiftAnswer, freed, plan, planMark, replies, Idle, Planned, Plan}
-use Rattle.source.proofs.Earliest.{FirstUpTo, earliest-first}
-use Rattle.source.proofs.Shifts.{cases-result, Taken, answer-taken, answer-over, plan-taken, plan-over, mark-taken, mark-over}
+use Rattle.bench.specs.Benches.{earliest, shiftOf, shiftAnswer, freed, plan, planMark, replies, Idle, Planned, Plan}
+use Rattle.bench.proofs.Earliest.{FirstUpTo, earliest-first}
+use Rattle.bench.proofs.Shifts.{cases-result, Taken, answer-taken, answer-over, plan-taken, plan-over, mark-taken, mark-over}
 
 module _ {B : Type 0} where
   taken-ready : (last : ℕ) (free : List ℕ) (j : Job B) (x : Shift B) → Taken last free j x → (x .reply .asked ≡ j .asked) × (x .reply .«class» ≡ j .«class») × (j .asked ≤ x .reply .ready)

@@ -2,9 +2,9 @@ use mathlib.Core.Path.{_≡_, _∙_, ap}
 use mathlib.Core.List.{[]}
 use lib.ListN.{take, replicate}
 use Rattle.std.proofs.shelf.Lists.{take-replicate, length-replicate}
-use Rattle.source.specs.Benches.{freeOf}
-use Rattle.source.proofs.Plans.{plan-kept, free-at-start}
-use Rattle.source.proofs.bench.Bench.new.Needs as need
+use Rattle.bench.specs.Benches.{freeOf}
+use Rattle.bench.proofs.Plans.{plan-kept, free-at-start}
+use Rattle.bench.proofs.Bench.new.Needs as need
 
 pub returns : need.returns
 returns g c =

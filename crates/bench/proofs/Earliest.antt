@@ -9,7 +9,7 @@ use lib.Dec.{leb}
 use lib.ListN.{length, getD, take}
 use Rattle.std.proofs.shelf.Lists.{getD-take, getD-default, getD-past, length-take-le}
 use Rattle.std.proofs.shelf.Tests.{cases-bool, cases-lt, cases-order, leb-true, leb-false}
-use Rattle.source.specs.Benches.{earliest}
+use Rattle.bench.specs.Benches.{earliest}
 
 -- s is the first of the earliest among the first n servers
 pub record FirstUpTo (free : List ℕ) (n s : ℕ) : Type 0 where

@@ -1,8 +1,8 @@
 use mathlib.Core.Path.{_≡_, sym, _∙_}
 use lib.ListN.{take}
-use Rattle.source.specs.Benches.{freeOf, firstShift, shifts, shiftsMark}
-use Rattle.source.proofs.Shifts.{next-answer, next-none, next-is}
-use Rattle.source.proofs.bench.Bench.next_shift.Needs as need
+use Rattle.bench.specs.Benches.{freeOf, firstShift, shifts, shiftsMark}
+use Rattle.bench.proofs.Shifts.{next-answer, next-none, next-is}
+use Rattle.bench.proofs.Bench.next_shift.Needs as need
 
 pub returns-in-rest : need.returns-in-rest
 returns-in-rest g c =

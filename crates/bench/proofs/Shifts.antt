@@ -14,14 +14,14 @@ use Rattle.std.specs.Vec.{made}
 use Rattle.std.specs.shelf.Maps.{nth}
 use Rattle.std.proofs.shelf.Lists.{drop-drop, getD-take}
 use Rattle.std.proofs.shelf.Tests.{and-parts, cases-bool, both-ways, leb-true, leb-false, le-leb, lt-leb}
 use Rattle.source.specs.declared.reply.End.{End}
 use Rattle.source.specs.declared.reply.End.the-variants.{Dry, Horizon}
-use Rattle.source.specs.declared.bench.Job.{Job}
-use Rattle.source.specs.declared.bench.Shift.{Shift}
-use Rattle.source.specs.declared.bench.Bench.{Bench}
-use Rattle.source.specs.declared.bench.Servers.{Servers}
-use Rattle.source.specs.Benches.{freeOf, earliest, InRange, jobFollows, worked, shiftOf, shiftAnswer, freed, plan, planMark, firstShift, shifts, shiftsMark, NextOf}
+use Rattle.bench.specs.declared.Job.{Job}
+use Rattle.bench.specs.declared.Shift.{Shift}
+use Rattle.bench.specs.declared.Bench.{Bench}
+use Rattle.bench.specs.declared.Servers.{Servers}
+use Rattle.bench.specs.Benches.{freeOf, earliest, InRange, jobFollows, worked, shiftOf, shiftAnswer, freed, plan, planMark, firstShift, shifts, shiftsMark, NextOf}
 use Rattle.source.proofs.Places.{drop-some, drop-none}
 
 pub cases-result : {X Y : Type 0} (r : Result X Y) → ((x : X) × (r ≡ Ok x)) ⊎ ((y : Y) × (r ≡ Err y))
 cases-result (Ok x) = inl (x, refl)

@@ -19,14 +19,14 @@ use lib.Dec.{leb}
 use lib.ListN.{getD, set, take, drop}
 use Rattle.std.specs.declared.result.Result.{Result}
 use Rattle.std.specs.declared.result.Result.the-variants.{Ok, Err}
 use Rattle.source.specs.declared.reply.Reply.{Reply}
 use Rattle.source.specs.declared.reply.End.{End}
 use Rattle.source.specs.declared.reply.End.the-variants.{Dry, Horizon}
-use Rattle.source.specs.declared.bench.Job.{Job}
-use Rattle.source.specs.declared.bench.Shift.{Shift}
-use Rattle.source.specs.declared.bench.Bench.{Bench}
-use Rattle.source.specs.declared.bench.Servers.{Servers}
+use Rattle.bench.specs.declared.Job.{Job}
+use Rattle.bench.specs.declared.Shift.{Shift}
+use Rattle.bench.specs.declared.Bench.{Bench}
+use Rattle.bench.specs.declared.Servers.{Servers}
 use Rattle.source.specs.Replies.{horizon}
 
 abbrev pub freeOf : Servers → List ℕ
 freeOf s = take (s .number .count) (s .free)

@@ -4,15 +4,17 @@ ghost use mathlib.Core.List.{[]};
 ghost use Prim.Native.Nat.{_<_};
 ghost use lib.ListN.{take, set, replicate};
 ghost use Rattle.std.specs.Vec.{made};
-ghost use Rattle.source.specs.Benches.{freeOf, earliest, jobFollows, shiftAnswer, shifts, shiftsMark, replies, firstShift, NextOf, Plan};
-use super::Source;
-use super::buffer::Buffer;
-use super::reply::End;
-use super::reply::HORIZON;
-use super::reply::LAST_CLASS;
-use super::reply::Reply;
-use super::reply::ReplyClone;
-use super::setting::ServerCount;
+ghost use Rattle.bench.specs.Benches.{freeOf, earliest, jobFollows, shiftAnswer, shifts, shiftsMark, replies, firstShift, NextOf, Plan};
+use setting::ServerCount;
+use source::Source;
+use source::buffer::Buffer;
+use source::reply::End;
+use source::reply::HORIZON;
+use source::reply::LAST_CLASS;
+use source::reply::Reply;
+use source::reply::ReplyClone;
+
+pub mod setting;
 
 // The most work of a job.
 pub const MOST_WORK: u32 = 1_000_000;

@@ -1,9 +1,9 @@
 use mathlib.Core.Path.{_≡_, sym}
 use mathlib.Core.Bool.{true}
 use native.Mathlib.Omega.{arith}
-use Rattle.source.specs.Benches.{freeOf, jobFollows}
-use Rattle.source.proofs.Shifts.{job-in-range, shift-taken, shift-late, kept-start}
-use Rattle.source.proofs.bench.Bench.shift.Needs as need
+use Rattle.bench.specs.Benches.{freeOf, jobFollows}
+use Rattle.bench.proofs.Shifts.{job-in-range, shift-taken, shift-late, kept-start}
+use Rattle.bench.proofs.Bench.shift.Needs as need
 
 pub returns-then-start-job : need.returns-then-start-job
 returns-then-start-job g c =

@@ -1,0 +1,3 @@
+pub mod Earliest
+pub mod Shifts
+pub mod Plans
