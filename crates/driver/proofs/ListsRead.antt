@@ -14,8 +14,8 @@ use Rattle.std.specs.declared.result.Result.the-variants.{Ok, Err}
 use Rattle.std.proofs.shelf.Lists.{length-push, take-at, take-all}
 use Rattle.std.proofs.shelf.Tests.{cases-bool, and-parts, leb-true}
 use Rattle.source.specs.declared.reply.Reply.{Reply}
-use Rattle.text.specs.declared.fault.Numbered.{Numbered}
-use Rattle.text.specs.declared.fault.RowFault.{RowFault}
+use Rattle.rows.specs.declared.fault.Numbered.{Numbered}
+use Rattle.rows.specs.declared.fault.RowFault.{RowFault}
 use Rattle.text.specs.declared.fault.FileFault.{FileFault}
 use Rattle.text.specs.declared.fault.FileFault.the-variants.{Row, Size}
 use Rattle.text.specs.Files.{Reading, rowCount, ending, onRow, readRows, answerOf, leftOf}

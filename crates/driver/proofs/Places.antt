@@ -16,22 +16,23 @@ use Rattle.source.specs.declared.reply.Reply.{Reply}
 use Rattle.pace.specs.declared.fault.StepFault.{StepFault}
 use Rattle.pace.specs.declared.fault.StepFault.the-variants as step
 use Rattle.pace.specs.Steps.{hasStep, addAnswer, noSteps}
-use Rattle.text.specs.declared.field.FieldFault.{FieldFault}
-use Rattle.text.specs.declared.field.FieldFault.the-variants.{Form, Limit}
-use Rattle.text.specs.declared.fault.Numbered.{Numbered}
-use Rattle.text.specs.declared.fault.RowFault.{RowFault}
-use Rattle.text.specs.declared.fault.RowFault.the-variants.{Field, Newline, Order, Step}
+use Rattle.rows.specs.declared.field.FieldFault.{FieldFault}
+use Rattle.rows.specs.declared.field.FieldFault.the-variants.{Form, Limit}
+use Rattle.rows.specs.declared.fault.Numbered.{Numbered}
+use Rattle.rows.specs.declared.fault.RowFault.{RowFault}
+use Rattle.rows.specs.declared.fault.RowFault.the-variants.{Field, Newline, Order, Step}
 use Rattle.text.specs.declared.fault.FileFault.{FileFault}
 use Rattle.text.specs.declared.fault.FileFault.the-variants.{Row, Size}
 use Rattle.text.specs.declared.pair.NoStep.{NoStep}
-use Rattle.text.specs.Columns.{Shape, listRow, scheduleRow}
-use Rattle.text.specs.Rows.{columnRead, ended, before, onField, rowRead}
+use Rattle.rows.specs.Columns.{Shape, listRow, scheduleRow}
+use Rattle.rows.specs.Rows.{columnRead, ended, before, onField, rowRead}
 use Rattle.text.specs.Files.{Reading, rowCount, ending, onRow, readRows, answerOf, fileAnswer}
 use Rattle.text.specs.Lists.{replyOf, ordered, replyFrom, lastAsked, onto, listStep, listAnswer, listRead}
 use Rattle.text.specs.Schedules.{stepped, stepFrom, scheduleStep, scheduleAnswer, scheduleRead}
 use Rattle.text.specs.Pairs.{pairFrom, pairAnswer}
 use Rattle.pace.specs.Refusals.{stepFaultNumber}
-use Rattle.text.specs.Refusals.{fieldFaultNumber, rowRefusal, refusalOf}
+use Rattle.rows.specs.Faults.{fieldFaultNumber}
+use Rattle.text.specs.Refusals.{rowRefusal, refusalOf}
 use Rattle.page.specs.declared.line.PageFault.{PageFault}
 use Rattle.page.specs.declared.line.PageFault.the-variants.{Class, Order as Late, Room}
 use Rattle.driver.specs.declared.job.Place.{Place}

@@ -20,8 +20,8 @@ use Rattle.pace.specs.Steps.{noSteps, ladder, stepsQuantum, stepsWait}
 use Rattle.gate.specs.Rules.{Rules}
 use Rattle.gate.specs.Views.{View, opened}
 use Rattle.text.specs.declared.fault.Refusal.{Refusal}
-use Rattle.text.specs.Columns.{refusalLine}
-use Rattle.text.specs.Rows.{rowShown}
+use Rattle.rows.specs.Columns.{refusalLine}
+use Rattle.rows.specs.Rows.{rowShown}
 use Rattle.text.specs.Refusals.{refusalOf}
 use Rattle.text.specs.Lists.{listAnswer, listRead}
 use Rattle.text.specs.Schedules.{scheduleAnswer, scheduleRead}

@@ -13,8 +13,8 @@ use lib.ListN.{length, take, drop, set, replicate}
 use Rattle.std.specs.declared.result.Result.{Result}
 use Rattle.std.specs.declared.result.Result.the-variants.{Ok, Err}
 use Rattle.gate.specs.Leaks.{exponent}
-use Rattle.text.specs.Columns.{pageRow, footRow}
-use Rattle.text.specs.Rows.{rowShown}
+use Rattle.rows.specs.Columns.{pageRow, footRow}
+use Rattle.rows.specs.Rows.{rowShown}
 use Rattle.page.specs.declared.line.PageRow.{PageRow}
 use Rattle.page.specs.declared.line.Foot.{Foot}
 use Rattle.page.specs.declared.line.PageFault.{PageFault}

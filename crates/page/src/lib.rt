@@ -11,11 +11,11 @@ use line::LINE;
 use line::PageFault;
 use line::PageRow;
 use pace::Pace;
+use rows::layout::FOOT;
+use rows::layout::PAGE_ROW;
 use sheet::ClosedPage;
 use sheet::OpenPage;
 use tally::Tally;
-use text::layout::FOOT;
-use text::layout::PAGE_ROW;
 
 pub mod leak;
 pub mod line;

@@ -1,6 +1,12 @@
 // Rows, lists and schedules.
 use pace::fault::StepFault;
 use pace::steps::Steps;
+use rows::fault::Numbered;
+use rows::fault::RowFault;
+use rows::fault::RowFaultDebug;
+use rows::fault::RowFaultPartialEq;
+use rows::field::FieldFault;
+use rows::layout::REFUSAL_LINE;
 use source::reply::Reply;
 use source::reply::ReplyDebug;
 use source::reply::ReplyPartialEq;
@@ -9,15 +15,9 @@ use text::fault::FileFault;
 use text::fault::FileFaultDebug;
 use text::fault::FileFaultPartialEq;
 use text::fault::ListFaultDebug;
-use text::fault::Numbered;
 use text::fault::Refusal;
 use text::fault::RefusalDebug;
 use text::fault::RefusalPartialEq;
-use text::fault::RowFault;
-use text::fault::RowFaultDebug;
-use text::fault::RowFaultPartialEq;
-use text::field::FieldFault;
-use text::layout::REFUSAL_LINE;
 use text::list::read_list;
 use text::list::write_list;
 use text::pair::NoStep;

@@ -11,7 +11,7 @@ use Rattle.std.specs.declared.option.Option.the-variants.{None, Some}
 use Rattle.std.specs.declared.result.Result.{Result}
 use Rattle.std.specs.declared.result.Result.the-variants.{Ok, Err}
 use Rattle.std.proofs.shelf.Lists.{take-at, drop-at, take-append-drop, nil-from-length}
-use Rattle.text.specs.declared.fault.RowFault.{RowFault}
+use Rattle.rows.specs.declared.fault.RowFault.{RowFault}
 use Rattle.text.specs.Files.{Reading, onRow, readRows}
 
 -- a kind of row: the row of an item, the state after it, and which items may come in a state

@@ -11,8 +11,8 @@ use Rattle.std.specs.declared.option.Option.the-variants.{None, Some}
 use Rattle.std.specs.declared.result.Result.{Result}
 use Rattle.std.specs.declared.result.Result.the-variants.{Ok, Err}
 use Rattle.std.proofs.shelf.Lists.{drop-drop}
-use Rattle.text.specs.declared.fault.Numbered.{Numbered}
-use Rattle.text.specs.declared.fault.RowFault.{RowFault}
+use Rattle.rows.specs.declared.fault.Numbered.{Numbered}
+use Rattle.rows.specs.declared.fault.RowFault.{RowFault}
 use Rattle.text.specs.declared.fault.FileFault.{FileFault}
 use Rattle.text.specs.declared.fault.FileFault.the-variants.{Row, Size}
 use Rattle.text.specs.Files.{Reading, rowCount, ending, onRow, RowTaken, readRows, answerOf, leftOf, fileAnswer, fileRead}

@@ -16,16 +16,16 @@ use Rattle.std.proofs.shelf.Tests.{le-leb, leb-true, cases-bool}
 use Rattle.source.specs.declared.reply.Reply.{Reply}
 use Rattle.source.specs.Replies.{Follows, follows}
 use Rattle.source.proofs.Beginnings.{follows-so}
-use Rattle.text.specs.declared.fault.Numbered.{Numbered}
-use Rattle.text.specs.declared.fault.RowFault.{RowFault}
-use Rattle.text.specs.declared.fault.RowFault.the-variants.{Order}
+use Rattle.rows.specs.declared.fault.Numbered.{Numbered}
+use Rattle.rows.specs.declared.fault.RowFault.{RowFault}
+use Rattle.rows.specs.declared.fault.RowFault.the-variants.{Order}
 use Rattle.text.specs.declared.fault.FileFault.{FileFault}
 use Rattle.text.specs.declared.fault.FileFault.the-variants.{Row, Size}
-use Rattle.text.specs.Columns.{listRow}
-use Rattle.text.specs.Rows.{fits}
+use Rattle.rows.specs.Columns.{listRow}
+use Rattle.rows.specs.Rows.{fits}
 use Rattle.text.specs.Lists.{numbersOf, lastAsked}
 use Rattle.text.specs.ListWriting.{unlawful, judgedBy, checkAnswer}
-use Rattle.text.proofs.Fitting.{fits-within}
+use Rattle.rows.proofs.Fitting.{fits-within}
 use Rattle.text.proofs.ListReading.{last-push}
 use Rattle.text.proofs.ListFiles.{ListFits}
 

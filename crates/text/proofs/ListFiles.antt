@@ -17,8 +17,8 @@ use Rattle.std.proofs.shelf.Tests.{le-leb, eq-eqb, eqb-true, and-from, and-part
 use Rattle.source.specs.declared.reply.Reply.{Reply}
 use Rattle.source.specs.Replies.{LawfulFrom, Lawful}
 use Rattle.source.proofs.Beginnings.{follows-so}
-use Rattle.text.specs.declared.fault.Numbered.{Numbered}
-use Rattle.text.specs.declared.fault.RowFault.{RowFault}
+use Rattle.rows.specs.declared.fault.Numbered.{Numbered}
+use Rattle.rows.specs.declared.fault.RowFault.{RowFault}
 use Rattle.text.specs.declared.fault.FileFault.{FileFault}
 use Rattle.text.specs.declared.fault.FileFault.the-variants.{Row, Size}
 use Rattle.text.specs.Files.{Reading, rowCount, ending, readRows, answerOf, leftOf}

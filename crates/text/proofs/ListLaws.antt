@@ -16,17 +16,17 @@ use Rattle.std.proofs.shelf.Tests.{le-leb, leb-true, eq-eqb, eqb-true, and-from
 use Rattle.source.specs.declared.reply.Reply.{Reply}
 use Rattle.source.specs.Replies.{LawfulFrom, Lawful, follows}
 use Rattle.source.proofs.Beginnings.{follows-so}
-use Rattle.text.specs.declared.fault.Numbered.{Numbered}
-use Rattle.text.specs.declared.fault.RowFault.{RowFault}
-use Rattle.text.specs.declared.fault.RowFault.the-variants.{Order}
+use Rattle.rows.specs.declared.fault.Numbered.{Numbered}
+use Rattle.rows.specs.declared.fault.RowFault.{RowFault}
+use Rattle.rows.specs.declared.fault.RowFault.the-variants.{Order}
 use Rattle.text.specs.declared.fault.FileFault.{FileFault}
 use Rattle.text.specs.declared.fault.FileFault.the-variants.{Row, Size}
-use Rattle.text.specs.Columns.{Shape, shape, listRow}
-use Rattle.text.specs.Rows.{Within, rowRead, rowShown}
+use Rattle.rows.specs.Columns.{Shape, shape, listRow}
+use Rattle.rows.specs.Rows.{Within, rowRead, rowShown}
 use Rattle.text.specs.Files.{Reading, rowCount, ending, readRows, answerOf, leftOf}
 use Rattle.text.specs.Lists.{numbersOf, replyShown, listShown, ListExact, replyOf, ordered, replyFrom, replyRead, lastAsked, onto, listStep, listAnswer, listRead}
-use Rattle.text.proofs.Fitting.{Sound, AllSound}
-use Rattle.text.proofs.RowLaws.{length-row, row-back, row-shown}
+use Rattle.rows.proofs.Fitting.{Sound, AllSound}
+use Rattle.rows.proofs.RowLaws.{length-row, row-back, row-shown}
 use Rattle.text.proofs.ListReading.{last-push}
 use Rattle.text.proofs.FileLaws.{Kind, putAll, FitAll, file-back, file-only, length-file}
 

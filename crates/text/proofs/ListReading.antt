@@ -9,7 +9,7 @@ use Rattle.std.specs.declared.result.Result.{Result}
 use Rattle.std.specs.declared.result.Result.the-variants.{Ok, Err}
 use Rattle.std.proofs.shelf.Lists.{drop-drop, drop-set-lt, length-take-le, take-append-drop, take-more-set}
 use Rattle.source.specs.declared.reply.Reply.{Reply}
-use Rattle.text.specs.declared.fault.RowFault.{RowFault}
+use Rattle.rows.specs.declared.fault.RowFault.{RowFault}
 use Rattle.text.specs.declared.fault.FileFault.the-variants.{Row}
 use Rattle.text.specs.Files.{Reading, ending, readRows}
 use Rattle.text.specs.Lists.{replyRead, lastAsked, onto, listStep, over}

@@ -16,11 +16,11 @@ use Rattle.source.specs.declared.reply.Reply.{Reply}
 use Rattle.text.specs.declared.fault.FileFault.{FileFault}
 use Rattle.text.specs.declared.fault.ListFault.{ListFault}
 use Rattle.text.specs.declared.fault.ListFault.the-variants.{Room}
-use Rattle.text.specs.Columns.{listRow}
-use Rattle.text.specs.Rows.{fits}
+use Rattle.rows.specs.Columns.{listRow}
+use Rattle.rows.specs.Rows.{fits}
 use Rattle.text.specs.Lists.{numbersOf, replyShown, listShown, listAnswer, listRead, over}
 use Rattle.text.specs.ListWriting.{checkAnswer, inRoom, listWriteAnswer}
-use Rattle.text.proofs.RowWriting.{grow, part-written}
+use Rattle.rows.proofs.RowWriting.{grow, part-written}
 use Rattle.text.proofs.ListFiles.{list-back, list-only}
 use Rattle.text.proofs.ListChecking.{blank, checked, list-fits}
 

@@ -1,7 +1,3 @@
-pub mod Fields
-pub mod Columns
-pub mod Faults
-pub mod Rows
 pub mod Refusals
 pub mod Files
 pub mod Lists

@@ -15,9 +15,9 @@ use Rattle.std.specs.declared.result.Result.{Result}
 use Rattle.std.specs.declared.result.Result.the-variants.{Ok, Err}
 use Rattle.source.specs.declared.reply.Reply.{Reply}
 use Rattle.source.specs.Replies.{follows}
-use Rattle.text.specs.declared.fault.Numbered.{Numbered}
-use Rattle.text.specs.declared.fault.RowFault.{RowFault}
-use Rattle.text.specs.declared.fault.RowFault.the-variants.{Order}
+use Rattle.rows.specs.declared.fault.Numbered.{Numbered}
+use Rattle.rows.specs.declared.fault.RowFault.{RowFault}
+use Rattle.rows.specs.declared.fault.RowFault.the-variants.{Order}
 use Rattle.text.specs.declared.fault.FileFault.{FileFault}
 use Rattle.text.specs.declared.fault.FileFault.the-variants.{Row, Size}
 use Rattle.text.specs.declared.fault.ListFault.{ListFault}

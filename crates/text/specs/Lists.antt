@@ -18,11 +18,11 @@ use Rattle.std.specs.declared.result.Result.{Result}
 use Rattle.std.specs.declared.result.Result.the-variants.{Ok, Err}
 use Rattle.source.specs.declared.reply.Reply.{Reply}
 use Rattle.source.specs.Replies.{Lawful}
-use Rattle.text.specs.declared.fault.RowFault.{RowFault}
-use Rattle.text.specs.declared.fault.RowFault.the-variants.{Order}
+use Rattle.rows.specs.declared.fault.RowFault.{RowFault}
+use Rattle.rows.specs.declared.fault.RowFault.the-variants.{Order}
 use Rattle.text.specs.declared.fault.FileFault.{FileFault}
-use Rattle.text.specs.Columns.{listRow}
-use Rattle.text.specs.Rows.{rowShown, rowRead}
+use Rattle.rows.specs.Columns.{listRow}
+use Rattle.rows.specs.Rows.{rowShown, rowRead}
 use Rattle.text.specs.Files.{fileAnswer, fileRead}
 
 abbrev pub numbersOf : Reply ℕ → List ℕ

@@ -8,10 +8,9 @@
 --   listRefusal   the refusal of a list that was not written
 use Prim.Native.Nat.{ℕ}
 use Rattle.pace.specs.Refusals.{stepFaultNumber}
-use Rattle.text.specs.declared.field.FieldFault.{FieldFault}
-use Rattle.text.specs.declared.field.FieldFault.the-variants.{Form, Limit}
-use Rattle.text.specs.declared.fault.RowFault.{RowFault}
-use Rattle.text.specs.declared.fault.RowFault.the-variants.{Field, Newline, Order, Step}
+use Rattle.rows.specs.Faults.{fieldFaultNumber}
+use Rattle.rows.specs.declared.fault.RowFault.{RowFault}
+use Rattle.rows.specs.declared.fault.RowFault.the-variants.{Field, Newline, Order, Step}
 use Rattle.text.specs.declared.fault.FileFault.{FileFault}
 use Rattle.text.specs.declared.fault.FileFault.the-variants.{Row, Size}
 use Rattle.text.specs.declared.fault.ListFault.{ListFault}
@@ -20,10 +19,6 @@ use Rattle.text.specs.declared.fault.Refusal.{Refusal}
 
 abbrev pub refusal : ℕ → ℕ → ℕ → Refusal
 refusal number row field = record { number = number; row = row; field = field }
-
-abbrev pub fieldFaultNumber : FieldFault → ℕ
-fieldFaultNumber Form = 1
-fieldFaultNumber Limit = 2
 
 abbrev pub rowRefusal : ℕ → RowFault → Refusal
 rowRefusal row (Field f) = refusal (fieldFaultNumber (f .fault)) row (f .number)

@@ -9,11 +9,11 @@ use Rattle.std.specs.declared.result.Result.{Result}
 use Rattle.std.specs.declared.result.Result.the-variants.{Ok, Err}
 use Rattle.pace.specs.declared.fault.StepFault.{StepFault}
 use Rattle.pace.specs.Steps.{noSteps, addAnswer, added}
-use Rattle.text.specs.declared.fault.RowFault.{RowFault}
-use Rattle.text.specs.declared.fault.RowFault.the-variants.{Step}
+use Rattle.rows.specs.declared.fault.RowFault.{RowFault}
+use Rattle.rows.specs.declared.fault.RowFault.the-variants.{Step}
 use Rattle.text.specs.declared.fault.FileFault.{FileFault}
-use Rattle.text.specs.Columns.{scheduleRow}
-use Rattle.text.specs.Rows.{rowRead}
+use Rattle.rows.specs.Columns.{scheduleRow}
+use Rattle.rows.specs.Rows.{rowRead}
 use Rattle.text.specs.Files.{fileAnswer, fileRead}
 
 -- the ladders after a step of class c, by the answer to it

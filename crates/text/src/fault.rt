@@ -1,33 +1,14 @@
-// What is refused in a text. Each layer's fault holds whole the fault of the layer beneath, with the number of the
-// part that it was found in.
+// What is refused in a file. A file's fault holds whole the fault of the row, with the number of the row.
 ghost use mathlib.Core.Path.{_≡_};
-ghost use Rattle.text.specs.Faults.{numberedAnswer};
-ghost use Rattle.text.specs.Refusals.{refusal, fieldFaultNumber, refusalOf, listRefusal};
-ghost use Rattle.text.specs.declared.fault.RowFault.the-variants.{Field, Step};
+ghost use Rattle.text.specs.Refusals.{refusal, refusalOf, listRefusal};
 ghost use Rattle.text.specs.declared.fault.FileFault.the-variants.{Row};
 ghost use Rattle.text.specs.declared.fault.ListFault.the-variants.{File};
-use super::field::FieldFault;
-use super::field::FieldFaultDebug;
-use super::field::FieldFaultPartialEq;
-use pace::fault::StepFault;
-use pace::fault::StepFaultDebug;
-use pace::fault::StepFaultPartialEq;
-
-// A fault, and the number, from 1, of the part that it was found in.
-#[derive(Clone, Copy, PartialEq, Eq, Debug)]
-pub struct Numbered<E> {
-    pub number: u32,
-    pub fault: E,
-}
-
-// Why a row was refused: a field of it, its end, its place in the file, or the step that it holds.
-#[derive(Clone, Copy, PartialEq, Eq, Debug)]
-pub enum RowFault {
-    Field(Numbered<FieldFault>),
-    Newline,
-    Order,
-    Step(StepFault),
-}
+use rows::fault::Numbered;
+use rows::fault::NumberedDebug;
+use rows::fault::NumberedPartialEq;
+use rows::fault::RowFault;
+use rows::fault::RowFaultDebug;
+use rows::fault::RowFaultPartialEq;
 
 // Why a file was refused: a row of it, or its size.
 #[derive(Clone, Copy, PartialEq, Eq, Debug)]
@@ -41,22 +22,6 @@ pub enum FileFault {
 pub enum ListFault {
     File(FileFault),
     Room,
-}
-
-pub impl From<Numbered<FieldFault>> for RowFault as RowFromField {
-    ghost converts = { λ f r. r ≡ Field f };
-
-    fn from(f: Numbered<FieldFault>) -> RowFault {
-        RowFault::Field(f)
-    }
-}
-
-pub impl From<StepFault> for RowFault as RowFromStep {
-    ghost converts = { λ f r. r ≡ Step f };
-
-    fn from(f: StepFault) -> RowFault {
-        RowFault::Step(f)
-    }
 }
 
 pub impl From<Numbered<RowFault>> for FileFault as FileFromRow {
@@ -75,16 +40,6 @@ pub impl From<FileFault> for ListFault as ListFromFile {
     }
 }
 
-// Puts the number of a part on the fault that was found in it.
-pub(crate) fn at_number<T, E>(number: u32, r: Result<T, E>) -> Result<T, Numbered<E>>
-    ensures { λ a. ⌜ a ≡ numberedAnswer number r ⌝ }
-{
-    match r {
-        Ok(v) => Ok(v),
-        Err(fault) => Err(Numbered { number, fault }),
-    }
-}
-
 // A refusal as it is printed: its number, and the row and field that it names. A part that does not apply is 0.
 #[derive(Clone, Copy, PartialEq, Eq, Debug)]
 pub struct Refusal {
@@ -98,18 +53,6 @@ impl Refusal {
         ensures { λ r. ⌜ r ≡ refusal number row field ⌝ }
     {
         Refusal { number, row, field }
-    }
-}
-
-impl FieldFault {
-    // The number of the refusal.
-    fn number(&self) -> u32
-        ensures { λ r. ⌜ r ≡ fieldFaultNumber (now (self .entry)) ⌝ }
-    {
-        match self {
-            FieldFault::Form => 1,
-            FieldFault::Limit => 2,
-        }
     }
 }
 

@@ -4,8 +4,8 @@ ghost use mathlib.Core.List.{[]};
 ghost use mathlib.Core.Path.{_≡_};
 ghost use Prim.Native.Nat.{ℕ, _*_, _≤_};
 ghost use lib.ListN.{length};
-ghost use Rattle.text.specs.Columns.{listRow};
-ghost use Rattle.text.specs.Rows.{fits};
+ghost use Rattle.rows.specs.Columns.{listRow};
+ghost use Rattle.rows.specs.Rows.{fits};
 ghost use Rattle.text.specs.Files.{ending, readRows};
 ghost use Rattle.text.specs.Lists.{numbersOf, replyShown, replyRead, listStep, listAnswer, listRead, ListExact, over};
 ghost use Rattle.text.specs.ListWriting.{checkAnswer, listWriteAnswer, ListWritten, ReadsBack};
@@ -13,11 +13,11 @@ use super::fault::FileFault;
 use super::fault::FileFromRow;
 use super::fault::ListFault;
 use super::fault::ListFromFile;
-use super::fault::Numbered;
-use super::fault::RowFault;
-use super::fault::at_number;
 use super::file::count_rows;
-use super::layout::LIST_ROW;
+use rows::fault::Numbered;
+use rows::fault::RowFault;
+use rows::fault::at_number;
+use rows::layout::LIST_ROW;
 use source::reply::Reply;
 
 // A list holds at most this many rows.

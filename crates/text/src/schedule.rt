@@ -9,12 +9,12 @@ ghost use Rattle.text.specs.Files.{RowTaken, ending, readRows};
 ghost use Rattle.text.specs.Schedules.{scheduleStep, scheduleAnswer, scheduleRead};
 use super::fault::FileFault;
 use super::fault::FileFromRow;
-use super::fault::RowFault;
-use super::fault::RowFromStep;
-use super::fault::at_number;
 use super::file::count_rows;
-use super::layout::SCHEDULE_ROW;
 use pace::steps::Steps;
+use rows::fault::RowFault;
+use rows::fault::RowFromStep;
+use rows::fault::at_number;
+use rows::layout::SCHEDULE_ROW;
 
 // A schedule holds at most this many rows.
 pub const MOST_STEPS: usize = 128;

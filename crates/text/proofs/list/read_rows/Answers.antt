@@ -5,7 +5,7 @@ use Rattle.std.specs.declared.result.Result.the-variants.{Err}
 use Rattle.std.proofs.shelf.Results.{err-from-errBy}
 use Rattle.text.specs.declared.fault.FileFault.the-variants.{Row}
 use Rattle.text.specs.Lists.{replyRead}
-use Rattle.text.proofs.Layers.{numbered-ok, numbered-err}
+use Rattle.rows.proofs.Layers.{numbered-ok, numbered-err}
 use Rattle.text.proofs.FileReading.{row-part}
 use Rattle.text.proofs.ListReading.{list-none, list-more, list-whole, list-faulty}
 use Rattle.text.proofs.list.read_rows.Needs as need

@@ -2,7 +2,7 @@ use mathlib.Core.Path.{_≡_, _∙_, sym, ap}
 use native.Mathlib.Omega.{arith}
 use Prim.Native.Nat.{_*_}
 use lib.ListN.{length}
-use Rattle.text.proofs.RowWriting.{part-length}
+use Rattle.rows.proofs.RowWriting.{part-length}
 use Rattle.text.proofs.ListChecking.{checked, each}
 use Rattle.text.proofs.ListWriting.{rows-none, rows-more, rows-all, rows-back, wrote}
 use Rattle.text.proofs.list.write_list.Needs as need

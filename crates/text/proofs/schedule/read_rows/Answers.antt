@@ -7,7 +7,7 @@ use Rattle.pace.specs.Steps.{laddersOf, noSteps}
 use Rattle.text.specs.declared.fault.FileFault.the-variants.{Row}
 use Rattle.text.specs.Files.{Reading, ending}
 use Rattle.text.specs.Schedules.{scheduleStep}
-use Rattle.text.proofs.Layers.{numbered-ok, numbered-err}
+use Rattle.rows.proofs.Layers.{numbered-ok, numbered-err}
 use Rattle.text.proofs.FileReading.{ReadTo, read-none, read-all, taken-more, refused-stops}
 use Rattle.text.proofs.schedule.read_rows.Needs as need
 

@@ -1,0 +1,9 @@
+pub mod Scans
+pub mod Numerals
+pub mod Shows
+pub mod Columns
+pub mod Fitting
+pub mod RowReading
+pub mod RowWriting
+pub mod RowLaws
+pub mod Layers
