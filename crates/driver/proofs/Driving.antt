@@ -11,10 +11,10 @@ use Rattle.std.specs.declared.result.Result.the-variants.{Ok, Err}
 use Rattle.std.proofs.shelf.Tests.{le-leb, lt-ltb, leb-true, and-parts}
 use Rattle.source.specs.declared.reply.Reply.{Reply}
 use Rattle.source.specs.declared.reply.End.{End}
-use Rattle.gate.specs.declared.Release.{Release}
-use Rattle.gate.specs.Rules.{Rules}
-use Rattle.gate.specs.Views.{View, all, release, replyOf, answer, next, Timely}
-use Rattle.gate.proofs.Nexts.{Moves, moves, all-grows}
+use Rattle.promise.specs.declared.release.Release.{Release}
+use Rattle.promise.specs.Rules.{Rules}
+use Rattle.promise.specs.Views.{View, all, release, replyOf, answer, next, Timely}
+use Rattle.promise.proofs.Nexts.{Moves, moves, all-grows}
 use Rattle.page.specs.declared.tally.Tally.{Tally}
 use Rattle.page.specs.Pages.{begun, taken, orderly, roomy, verdict, rowAnswer, rowBytes, footOf, footBytes, lined}
 use Rattle.driver.specs.declared.replay.Stop.{Stop}

@@ -22,8 +22,9 @@ use Rattle.std.specs.declared.result.Result.{Result}
 use Rattle.std.specs.shelf.Lists.{sum}
 use Rattle.gate.specs.declared.Gate.{Gate}
 use Rattle.gate.specs.Rows.{releasesIn}
-use Rattle.gate.specs.Rules.{Rules}
-use Rattle.gate.specs.Views.{View, opened, standingOf}
+use Rattle.promise.specs.Rules.{Rules}
+use Rattle.promise.specs.Views.{View, opened}
+use Rattle.gate.specs.Gates.{standingOf}
 use Rattle.page.specs.declared.line.PageFault.{PageFault}
 use Rattle.driver.specs.declared.replay.Replayed.{Replayed}
 use Rattle.std.specs.declared.result.Result.the-variants.{Ok, Err}

@@ -17,8 +17,8 @@ use Rattle.source.specs.declared.reply.Reply.{Reply}
 use Rattle.source.specs.declared.reply.End.the-variants.{Dry}
 use Rattle.source.specs.Replies.{beginning}
 use Rattle.pace.specs.Steps.{noSteps, ladder, stepsQuantum, stepsWait}
-use Rattle.gate.specs.Rules.{Rules}
-use Rattle.gate.specs.Views.{View, opened}
+use Rattle.promise.specs.Rules.{Rules}
+use Rattle.promise.specs.Views.{View, opened}
 use Rattle.text.specs.declared.fault.Refusal.{Refusal}
 use Rattle.rows.specs.Columns.{refusalLine}
 use Rattle.rows.specs.Rows.{rowShown}

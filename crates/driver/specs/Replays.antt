@@ -13,9 +13,9 @@ use Rattle.std.specs.declared.result.Result.{Result}
 use Rattle.std.specs.declared.result.Result.the-variants.{Ok, Err}
 use Rattle.source.specs.declared.reply.End.{End}
 use Rattle.source.specs.declared.reply.End.the-variants.{Dry, Horizon}
-use Rattle.gate.specs.declared.Release.{Release}
-use Rattle.gate.specs.Rules.{Rules}
-use Rattle.gate.specs.Views.{View, release, next}
+use Rattle.promise.specs.declared.release.Release.{Release}
+use Rattle.promise.specs.Rules.{Rules}
+use Rattle.promise.specs.Views.{View, release, next}
 use Rattle.page.specs.declared.line.PageRow.{PageRow}
 use Rattle.page.specs.declared.line.PageFault.{PageFault}
 use Rattle.page.specs.declared.line.PageFault.the-variants.{Room}

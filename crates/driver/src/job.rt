@@ -3,7 +3,7 @@ ghost use mathlib.Core.Path.{_≡_};
 ghost use Prim.Native.Nat.{ℕ, _≤_};
 ghost use lib.ListN.{length};
 ghost use Rattle.pace.specs.Steps.{laddersOf, noSteps};
-ghost use Rattle.gate.specs.Views.{View};
+ghost use Rattle.promise.specs.Views.{View};
 ghost use Rattle.driver.specs.Replays.{ReplayLeaves};
 ghost use Rattle.driver.specs.declared.job.JobFault.the-variants.{Pair, Page};
 ghost use Rattle.driver.specs.Jobs.{placeIn, placeOf, jobRules, jobView, Prepares, JobLeaves, lineOf, Prints};

@@ -2,7 +2,8 @@
 ghost use mathlib.Core.Path.{_≡_};
 ghost use Prim.Native.Nat.{_+_, _*_, _≤_};
 ghost use lib.ListN.{length};
-ghost use Rattle.gate.specs.Views.{viewOf, rulesIn, all};
+ghost use Rattle.promise.specs.Views.{all};
+ghost use Rattle.gate.specs.Gates.{viewOf, rulesIn};
 ghost use Rattle.driver.specs.Replays.{stopOf, Fills, ReplayLeaves};
 use gate::Gate;
 use gate::opening::Opening;

@@ -1,6 +1,3 @@
 pub mod Turns
-pub mod Settling
 pub mod Rows
-pub mod Releases
-pub mod Mosts
-pub mod Nexts
+pub mod Leaving

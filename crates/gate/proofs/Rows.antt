@@ -10,33 +10,17 @@ use lib.Seq.{getD-set-same, getD-set-other, map-set}
 use Rattle.std.specs.shelf.Lists.{sum, sumBy}
 use Rattle.std.proofs.shelf.Sums.{getD-le-sumBy, sum-map, sumBy-cons, sumBy-set}
 use Rattle.std.proofs.shelf.Tests.{cases-lt, cases-eq}
-use Rattle.gate.specs.declared.predict.Settled.{Settled}
+use Rattle.promise.specs.declared.release.Settled.{Settled}
 use Rattle.gate.specs.declared.row.Row.{Row}
 use Rattle.gate.specs.Rows.{noRow, missesAt, missesIn, releasesIn}
-use Rattle.gate.proofs.Settling.{Risen, few}
+use Rattle.promise.proofs.Sums.{sum-few}
+use Rattle.promise.proofs.Settling.{Risen, few}
 
 pub misses-at : (rows : List Row) (c : ℕ) → missesAt rows c ≡ getD (missesIn rows) c 0
 misses-at rows c = sym (List·getD-map (λ (r : Row). r .misses) rows c noRow)
 
 pub releases-at : (rows : List Row) (c : ℕ) → getD rows c noRow .releases ≡ getD (releasesIn rows) c 0
 releases-at rows c = sym (List·getD-map (λ (r : Row). r .releases) rows c noRow)
-
--- one number is part of the sum
-pub part-of-sum : (xs : List ℕ) (i : ℕ) → getD xs i 0 ≤ sum xs
-part-of-sum xs i =
-    elim (cases-lt i (length xs)) [
-      | inl h ↦ getD-le-sumBy (λ x. x) xs i 0 h
-      | inr h ↦ (let e : getD xs i 0 ≡ 0 = List·getD-eq-default xs 0 h in omega (arith, e))
-    ]
-
--- numbers of at most b have a sum of at most b for each
-pub sum-few : (xs : List ℕ) (b : ℕ) → ((i : ℕ) → i < length xs → getD xs i 0 ≤ b) → sum xs ≤ b * length xs
-sum-few [] b h = omega arith
-sum-few (x ∷ xs) b h =
-    let one : x ≤ b = h 0 (omega arith) in
-    let more : sum xs ≤ b * length xs = sum-few xs b (λ i l. h (suc i) (omega arith)) in
-    let m : b * suc (length xs) ≡ b * length xs + b = mul-suc b (length xs) in
-    omega (arith, m, sumBy-cons (λ y. y) x xs)
 
 -- what a ledger's facts give: no class has more than 29 misses, and all have at most 232
 module _ (rows : List Row) (opening clock : ℕ) (table : length rows ≡ 8) (within : clock ≤ 1000000000)

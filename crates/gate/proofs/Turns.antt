@@ -5,13 +5,9 @@ use native.Mathlib.Omega.{arith}
 use native.Mathlib.Nat.{add-zero, mul-le-mul-left}
 use lib.Pow.{pow-pos}
 use Rattle.source.specs.Replies.{horizon}
-use Rattle.gate.specs.Rules.{Rules, Laws}
-use Rattle.gate.specs.Predictions.{predict, Settles, Passes}
-
-pub wait-some : (m : Rules) → Laws m → (c e : ℕ) → c ≤ 7 → 1 ≤ m .wait c e
-wait-some m laws c e hc =
-    let g : m .quantum c * 1 ≤ m .quantum c * 2 ^ e = mul-le-mul-left (m .quantum c) (pow-pos e) in
-    omega (arith, laws .pace .wait-low c e hc, laws .pace .quantum-low c hc)
+use Rattle.promise.specs.Rules.{Rules, Laws}
+use Rattle.promise.specs.Predictions.{predict, Settles, Passes}
+use Rattle.promise.proofs.Settling.{wait-some}
 
 module _ (m : Rules) (c ready base own all : ℕ) where
   -- after `misses` misses the predictions go on from `from`, with the misses n and a

@@ -1,5 +1,2 @@
-pub mod Rules
 pub mod Rows
-pub mod Predictions
-pub mod Views
-pub mod Leaks
+pub mod Gates

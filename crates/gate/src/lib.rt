@@ -4,15 +4,17 @@ ghost use Prim.Native.Nat.{_≤_};
 ghost use Rattle.std.specs.declared.result.Result.the-variants.{Err};
 ghost use Rattle.source.specs.Replies.{first};
 ghost use Rattle.source.specs.declared.reply.End.{End};
-ghost use Rattle.gate.specs.Views.{viewOf, rulesIn, standingOf, opened, settled, base, moved, released, ending, answer, release, next, Timely};
+ghost use Rattle.promise.specs.Views.{opened, settled, base, moved, released, ending, answer, release, next, Timely};
+ghost use Rattle.gate.specs.Gates.{viewOf, rulesIn, standingOf};
 ghost use Rattle.std.specs.Vec.{made};
 use ledger::Ledger;
 use opening::Opening;
 use pace::Pace;
 use pace::Penalty;
 use predict::Pending;
-use predict::Settled;
 use predict::settle;
+use promise::release::Release;
+use promise::release::Settled;
 use row::Row;
 use source::Source;
 use source::reply::End;
@@ -31,13 +33,6 @@ pub struct Gate<S, P, R> {
     pace: P,
     penalty: R,
     ledger: Ledger,
-}
-
-// A reply as it is released, its ready tick the release tick, and how many predictions it missed.
-#[derive(Clone, Copy)]
-pub struct Release<B> {
-    pub reply: Reply<B>,
-    pub misses: u32,
 }
 
 // The reply, ready at its release tick.

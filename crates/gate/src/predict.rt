@@ -1,10 +1,11 @@
 // How a release tick is predicted.
 ghost use mathlib.Core.Path.{_≡_};
 ghost use Prim.Native.Nat.{ℕ, _+_, _<_, _≤_};
-ghost use Rattle.gate.specs.Rules.{rulesOf};
-ghost use Rattle.gate.specs.Predictions.{predict, Predicted, Comes};
+ghost use Rattle.promise.specs.Rules.{rulesOf};
+ghost use Rattle.promise.specs.Predictions.{predict, Predicted, Comes};
 use pace::Pace;
 use pace::Penalty;
+use promise::release::Settled;
 use source::reply::HORIZON;
 
 // What the predictions for a reply start from: its class and ready tick, the misses of its class and of all classes,
@@ -16,13 +17,6 @@ pub struct Pending {
     pub(crate) own: u32,
     pub(crate) all: u32,
     pub(crate) base: u32,
-}
-
-// What the predictions for a reply come to: its release tick, and how many were missed before.
-#[derive(Clone, Copy)]
-pub struct Settled {
-    pub(crate) tick: u32,
-    pub(crate) misses: u32,
 }
 
 // One prediction: the base and the wait that the misses call for, or nothing where that passes the horizon.

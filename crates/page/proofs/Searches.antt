@@ -8,20 +8,13 @@ use lib.Pow.{pow-mono, pow-pos}
 use lib.Dec.{leb}
 use Rattle.std.proofs.shelf.Tests.{cases-lt, cases-bool, leb-true, leb-false}
 use mathlib.Core.Bool.{Bool}
-use Rattle.gate.specs.Leaks.{Most, share, over}
-use Rattle.gate.proofs.Mosts.{most-last}
+use Rattle.promise.specs.Leaks.{Most, share, over}
+use Rattle.promise.proofs.Mosts.{most-last}
+use Rattle.promise.proofs.Settling.{few}
 use Rattle.page.specs.Bits.{Enough, bitsFrom, rowBits}
 
 pub power-more : (n : ℕ) → 2 ^ (n + 1) ≡ 2 ^ n + 2 ^ n
 power-more n = let e : n + 1 ≡ suc n = omega arith in ap (λ k. 2 ^ k) e ∙ two-pow-succ n
-
--- 2^n within the horizon and one: n is at most 29
-pub exponent-few : (n : ℕ) → 2 ^ n ≤ 1000000001 → n ≤ 29
-exponent-few n h =
-    elim (cases-lt n 30) [
-      | inl lt ↦ omega arith
-      | inr ge ↦ (let w : 2 ^ 30 ≤ 2 ^ n = pow-mono ge in absurd (omega (arith, w)))
-    ]
 
 -- where the search for the most misses stands at n
 pub record Fitting (q span n power : ℕ) : Type 0 where
@@ -34,7 +27,7 @@ module _ (q span n power : ℕ) (hq : 1 ≤ q) (hs : span ≤ 1000000000) (f : F
   power-few = let l : 1 * (power - 1) ≤ q * (power - 1) = mul-le-mul-right (power - 1) hq in omega (arith, f .fits, f .some)
 
   pub count-few : n ≤ 29
-  count-few = exponent-few n (let p = power-few in omega (arith, f .power-is))
+  count-few = few n 1000000000 (let p = power-few in omega (arith, f .power-is)) (omega arith)
 
   pub product-fits : q < 4294967296 → q * (2 * power - 1) < 18446744073709551616
   product-fits small =

@@ -12,7 +12,7 @@ use lib.Dec.{leb, ltb}
 use lib.ListN.{length, take, drop, set, replicate}
 use Rattle.std.specs.declared.result.Result.{Result}
 use Rattle.std.specs.declared.result.Result.the-variants.{Ok, Err}
-use Rattle.gate.specs.Leaks.{exponent}
+use Rattle.promise.specs.Leaks.{exponent}
 use Rattle.rows.specs.Columns.{pageRow, footRow}
 use Rattle.rows.specs.Rows.{rowShown}
 use Rattle.page.specs.declared.line.PageRow.{PageRow}

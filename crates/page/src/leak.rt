@@ -2,7 +2,7 @@
 ghost use mathlib.Core.Path.{_≡_};
 ghost use Prim.Native.Nat.{ℕ, _+_, _*_, _<_, _≤_};
 ghost use lib.ListN.{length};
-ghost use Rattle.gate.specs.Leaks.{Most, share, mostOf, exponent};
+ghost use Rattle.promise.specs.Leaks.{Most, share, mostOf, exponent};
 ghost use Rattle.page.specs.Bits.{rowBits, occursIn, count};
 use pace::Pace;
 

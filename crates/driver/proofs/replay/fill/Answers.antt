@@ -4,10 +4,11 @@ use native.Mathlib.Omega.{arith}
 use lib.ListN.{length, length-map}
 use Rattle.std.specs.declared.result.Result.the-variants.{Ok}
 use Rattle.gate.specs.declared.Gate.{Gate}
-use Rattle.gate.specs.declared.Release.{Release}
+use Rattle.promise.specs.declared.release.Release.{Release}
 use Rattle.gate.specs.declared.row.Row.{Row}
-use Rattle.gate.specs.Rules.{Rules}
-use Rattle.gate.specs.Views.{viewOf, rulesIn, all, release, answer, next, Timely}
+use Rattle.promise.specs.Rules.{Rules}
+use Rattle.promise.specs.Views.{all, release, answer, next, Timely}
+use Rattle.gate.specs.Gates.{viewOf, rulesIn}
 use Rattle.page.specs.Pages.{roomy}
 use Rattle.gate.proofs.Rows.{all-few}
 use Rattle.driver.proofs.Driving.{Driven, accepted, driven-more, released-head}

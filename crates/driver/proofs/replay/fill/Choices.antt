@@ -1,6 +1,6 @@
 use mathlib.Core.Path.{_≡_}
 use Prim.Native.Nat.{_-_}
-use Rattle.gate.specs.Views.{viewOf, rulesIn}
+use Rattle.gate.specs.Gates.{viewOf, rulesIn}
 use Rattle.driver.proofs.Driving.{Driven}
 use Rattle.driver.proofs.replay.fill.Given as given
 

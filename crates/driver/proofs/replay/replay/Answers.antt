@@ -1,6 +1,6 @@
 use mathlib.Core.Path.{_≡_, sym, _∙_, ap}
-use Rattle.gate.specs.Rules.{Rules}
-use Rattle.gate.specs.Views.{viewOf, rulesIn}
+use Rattle.promise.specs.Rules.{Rules}
+use Rattle.gate.specs.Gates.{viewOf, rulesIn}
 use Rattle.page.specs.Pages.{begun}
 use Rattle.driver.proofs.Driving.{replays}
 use Rattle.driver.proofs.Opened.{checked-same}

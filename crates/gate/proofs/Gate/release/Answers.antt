@@ -7,10 +7,12 @@ use Rattle.std.specs.declared.result.Result.the-variants.{Ok}
 use Rattle.source.specs.declared.reply.Reply.{Reply}
 use Rattle.source.specs.Replies.{first}
 use Rattle.gate.specs.declared.Gate.{Gate}
-use Rattle.gate.specs.declared.predict.Settled.{Settled}
-use Rattle.gate.specs.Views.{viewOf, rulesIn, base, standingOf, settled}
+use Rattle.promise.specs.declared.release.Settled.{Settled}
+use Rattle.promise.specs.Views.{base, settled}
+use Rattle.promise.proofs.Releases.{release-is, next-is, view-is}
+use Rattle.gate.specs.Gates.{viewOf, rulesIn, standingOf}
 use Rattle.gate.proofs.Rows.{misses-set, misses-sum, releases-sum, charged-set}
-use Rattle.gate.proofs.Releases.{first-follows, release-is, next-is, view-is, Leaves, leaves, timely}
+use Rattle.gate.proofs.Leaving.{first-follows, Leaves, leaves, timely}
 use Rattle.gate.proofs.Gate.release.Given as given
 use Rattle.gate.proofs.Gate.release.Needs as need
 

@@ -1,12 +1,14 @@
 use mathlib.Core.Path.{_≡_, sym, _∙_, ap}
 use native.Mathlib.Omega.{arith}
 use Prim.Native.Nat.{ℕ, _≤_}
-use Rattle.gate.specs.Rules.{Rules, Laws}
+use Rattle.promise.specs.Rules.{Rules, Laws}
 use Rattle.gate.specs.Rows.{missesAt, missesIn}
-use Rattle.gate.specs.Predictions.{settle}
-use Rattle.gate.specs.Views.{rulesIn, settled, base, own, standingOf}
-use Rattle.gate.proofs.Settling.{comes-settle}
-use Rattle.gate.proofs.Rows.{misses-at, part-of-sum, all-few}
+use Rattle.promise.specs.Predictions.{settle}
+use Rattle.promise.specs.Views.{settled, base, own}
+use Rattle.gate.specs.Gates.{rulesIn, standingOf}
+use Rattle.promise.proofs.Sums.{part-of-sum}
+use Rattle.promise.proofs.Settling.{comes-settle}
+use Rattle.gate.proofs.Rows.{misses-at, all-few}
 use Rattle.gate.proofs.Gate.settle.Needs as need
 
 pub settle-requires : need.settle-requires

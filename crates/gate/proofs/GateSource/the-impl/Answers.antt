@@ -1,5 +1,5 @@
-use Rattle.gate.specs.Views.{rulesIn, standingOf}
-use Rattle.gate.proofs.Releases.{released-lawful}
+use Rattle.promise.proofs.Releases.{released-lawful}
+use Rattle.gate.specs.Gates.{rulesIn, standingOf}
 use Rattle.gate.proofs.GateSource.the-impl.Needs as need
 
 pub lawful-law : need.lawful-law

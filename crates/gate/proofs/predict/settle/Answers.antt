@@ -2,9 +2,10 @@ use mathlib.Core.Path.{_≡_, refl, sym, _∙_, ap, subst}
 use Prim.Native.Nat.{ℕ, _≤_, _<_}
 use native.Mathlib.Omega.{arith}
 use Rattle.source.specs.Replies.{horizon}
-use Rattle.gate.specs.Rules.{Rules, Laws, rulesOf}
-use Rattle.gate.specs.Predictions.{predict}
-use Rattle.gate.proofs.Turns.{Onward, onward-first, onward-met, onward-missed, onward-past, wait-some}
+use Rattle.promise.specs.Rules.{Rules, Laws, rulesOf}
+use Rattle.promise.specs.Predictions.{predict}
+use Rattle.gate.proofs.Turns.{Onward, onward-first, onward-met, onward-missed, onward-past}
+use Rattle.promise.proofs.Settling.{wait-some}
 use Rattle.gate.proofs.predict.settle.Needs as need
 
 pub loop-tick-holds : need.loop-tick-holds

@@ -1,6 +1,6 @@
 use Prim.Native.Nat.{_-_}
 use mathlib.Core.Path.{_≡_}
-use Rattle.gate.specs.Rules.{rulesOf}
+use Rattle.promise.specs.Rules.{rulesOf}
 use Rattle.gate.proofs.Turns.{Onward}
 use Rattle.gate.proofs.predict.settle.Given as given
 

@@ -1,5 +1,5 @@
 use native.Mathlib.Omega.{arith}
-use Rattle.gate.specs.Leaks.{mostOf}
+use Rattle.promise.specs.Leaks.{mostOf}
 use Rattle.page.specs.Bits.{occursIn}
 use Rattle.page.proofs.Searches.{over-more}
 use Rattle.page.proofs.leak.exponent.Needs as need

@@ -1,6 +1,6 @@
 use mathlib.Core.Path.{_≡_}
 use Prim.Native.Nat.{_+_, _*_, _≤_}
-use Rattle.gate.specs.Leaks.{over, mostOf}
+use Rattle.promise.specs.Leaks.{over, mostOf}
 use Rattle.page.specs.Bits.{occursIn}
 use Rattle.page.proofs.leak.exponent.Given as given
 

@@ -1,8 +1,8 @@
 use mathlib.Core.Path.{_≡_, sym, _∙_, ap}
 use Prim.Native.Nat.{ℕ}
 use native.Mathlib.Omega.{arith}
-use Rattle.gate.specs.Leaks.{mostOf, share}
-use Rattle.gate.proofs.Mosts.{most-is}
+use Rattle.promise.specs.Leaks.{mostOf, share}
+use Rattle.promise.proofs.Mosts.{most-is}
 use Rattle.page.proofs.Answers.{known-class}
 use Rattle.page.proofs.leak.share.Needs as need
 

@@ -11,10 +11,10 @@ use Rattle.std.specs.declared.result.Result.the-variants.{Ok, Err}
 use Rattle.std.specs.shelf.Lists.{sum}
 use Rattle.std.proofs.shelf.Sums.{sumBy-set}
 use Rattle.source.specs.declared.reply.Reply.{Reply}
-use Rattle.gate.specs.declared.Release.{Release}
-use Rattle.gate.specs.declared.predict.Settled.{Settled}
-use Rattle.gate.specs.Rules.{Rules}
-use Rattle.gate.specs.Views.{View, own, all, settled, releaseBy, releaseFrom, release, nextBy, nextFrom, next}
+use Rattle.promise.specs.declared.release.Release.{Release}
+use Rattle.promise.specs.declared.release.Settled.{Settled}
+use Rattle.promise.specs.Rules.{Rules}
+use Rattle.promise.specs.Views.{View, own, all, settled, releaseBy, releaseFrom, release, nextBy, nextFrom, next}
 
 module _ {B : Type 0} where
   -- the clock moves to the release, and its misses are charged to its class

@@ -1,13 +1,16 @@
 -- What a gate shows, and what its calls answer. Nothing is assumed.
 --   Standing       a ledger in plain numbers: the opening, the clock, the misses of the classes 0 to 7
 --   base           where the predictions for a reply begin: the later of its asked tick and the clock
---   settled        the release tick of a reply and its misses, or nothing where a prediction passes the horizon
+--   SettlesAt      where the gate stands, a reply is released at a tick after so many misses; PassesAt, its prediction
+--                  passes the horizon
+--   settled        the same, computed: the release tick and the misses, or nothing where a prediction passes the horizon
 --   charged        the standing after a reply of some class is released
 --   released       the replies that the gate will release, and `ending` why they end
 --   View           what is coming below the gate, how that ends, where the gate stands, how many replies were taken
---   viewOf         what the gate at hand shows; `opened`, what it shows when it is opened
+--   opened         what a gate shows when it is opened
+--   answer         what head and take answer; `release`, the same with the misses; `lapses`, the misses alone
+--   next           the view after a take
 --   Timely         what every release keeps
---   answer         what head and take answer; `release`, the same with the misses; `next`, the view after a take
 use mathlib.Core.List.{List, [], _∷_}
 use Prim.Native.Nat.{ℕ, suc, _+_, _<_, _≤_, max}
 use lib.ListN.{getD, set, replicate}
@@ -16,20 +19,14 @@ use Rattle.std.specs.declared.option.Option.the-variants.{None, Some}
 use Rattle.std.specs.declared.result.Result.{Result}
 use Rattle.std.specs.declared.result.Result.the-variants.{Ok, Err}
 use Rattle.std.specs.shelf.Lists.{sum}
-use Rattle.source.specs.declared.Source as Source
 use Rattle.source.specs.declared.reply.Reply.{Reply}
 use Rattle.source.specs.declared.reply.End.{End}
 use Rattle.source.specs.declared.reply.End.the-variants.{Horizon}
-use Rattle.pace.specs.declared.Pace as Pace
-use Rattle.pace.specs.declared.Penalty as Penalty
 use Rattle.source.specs.Replies.{horizon}
-use Rattle.gate.specs.declared.Gate.{Gate}
-use Rattle.gate.specs.declared.Release.{Release}
-use Rattle.gate.specs.declared.ledger.Ledger.{Ledger}
-use Rattle.gate.specs.declared.predict.Settled.{Settled}
-use Rattle.gate.specs.Rows.{missesIn, releasesIn}
-use Rattle.gate.specs.Rules.{Rules, rulesOf}
-use Rattle.gate.specs.Predictions.{settle}
+use Rattle.promise.specs.declared.release.Release.{Release}
+use Rattle.promise.specs.declared.release.Settled.{Settled}
+use Rattle.promise.specs.Rules.{Rules}
+use Rattle.promise.specs.Predictions.{Settles, Passes, settle}
 
 pub record Standing : Type 0 where
   pub opening : ℕ
@@ -53,6 +50,13 @@ abbrev pub fresh : ℕ → Standing
 fresh t = record { opening = t; clock = t; misses = replicate 8 0 }
 
 module _ {B : Type 0} where
+  abbrev pub SettlesAt : Rules → Standing → Reply B → ℕ → ℕ → Type 0
+  SettlesAt m st r k t =
+      Settles m (r .«class») (r .ready) (base st (r .asked)) (own st (r .«class»)) (all st) k t
+
+  abbrev pub PassesAt : Rules → Standing → Reply B → ℕ → Type 0
+  PassesAt m st r k = Passes m (r .«class») (r .ready) (base st (r .asked)) (own st (r .«class»)) (all st) k
+
   -- no class has more than 29 misses within the horizon, so 30 predictions decide
   unfoldable pub settled : Rules → Standing → Reply B → Option Settled
   settled m st r = settle 30 m (r .«class») (r .ready) (base st (r .asked)) (own st (r .«class»)) (all st)
@@ -100,6 +104,13 @@ module _ {B : Type 0} where
   abbrev pub answer : Rules → View B → Result (Reply B) End
   answer m v = replyOf (release m v)
 
+  abbrev pub missesOf : Result (Release B) End → Result ℕ End
+  missesOf (Ok x) = Ok (x .misses)
+  missesOf (Err e) = Err e
+
+  abbrev pub lapses : Rules → View B → Result ℕ End
+  lapses m v = missesOf (release m v)
+
   abbrev pub nextBy : Option Settled → View B → Reply B → List (Reply B) → View B
   nextBy (Some s) v r rs =
       record { coming = rs; mark = v .mark; standing = charged (v .standing) (r .«class») s; taken = suc (v .taken) }
@@ -120,18 +131,3 @@ pub record Timely {B : Type 0} (clock : ℕ) (x : Release B) : Type 0 where
   pub within : x .reply .ready ≤ horizon
   pub known : x .reply .«class» ≤ 7
   pub few : x .misses ≤ 29
-
-abbrev pub standingOf : Ledger → Standing
-standingOf l = record { opening = l .opening; clock = l .clock; misses = missesIn (l .rows) }
-
-abbrev pub viewOf : {S P R B : Type 0} → Source.Ghosts S B → Gate S P R → View B
-viewOf source g =
-    record {
-      coming = source .coming (g .source);
-      mark = source .mark (g .source);
-      standing = standingOf (g .ledger);
-      taken = sum (releasesIn (g .ledger .rows));
-    }
-
-abbrev pub rulesIn : {S P R : Type 0} → Pace.Ghosts P → Penalty.Ghosts R → Gate S P R → Rules
-rulesIn pace penalty g = rulesOf pace penalty (g .pace) (g .penalty)

@@ -11,10 +11,14 @@ use Rattle.std.specs.declared.option.Option.{Option}
 use Rattle.std.specs.declared.option.Option.the-variants.{None, Some}
 use Rattle.std.proofs.shelf.Tests.{le-leb, lt-leb, leb-true, leb-false, cases-lt}
 use Rattle.source.specs.Replies.{horizon}
-use Rattle.gate.specs.declared.predict.Settled.{Settled}
-use Rattle.gate.specs.Rules.{Rules, Laws}
-use Rattle.gate.specs.Predictions.{predict, Settles, Passes, Comes, missed, judged, settle}
-use Rattle.gate.proofs.Turns.{wait-some}
+use Rattle.promise.specs.declared.release.Settled.{Settled}
+use Rattle.promise.specs.Rules.{Rules, Laws}
+use Rattle.promise.specs.Predictions.{predict, Settles, Passes, Comes, missed, judged, settle}
+
+pub wait-some : (m : Rules) → Laws m → (c e : ℕ) → c ≤ 7 → 1 ≤ m .wait c e
+wait-some m laws c e hc =
+    let g : m .quantum c * 1 ≤ m .quantum c * 2 ^ e = mul-le-mul-left (m .quantum c) (pow-pos e) in
+    omega (arith, laws .pace .wait-low c e hc, laws .pace .quantum-low c hc)
 
 pub settles-ready : (m : Rules) (c ready base own all k t : ℕ) → Settles m c ready base own all k t → ready ≤ t
 settles-ready m c ready base own all zero t s = s .1

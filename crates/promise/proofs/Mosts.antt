@@ -8,7 +8,7 @@ use native.Mathlib.Nat.{mul-le-mul-left, mul-le-mul-right}
 use lib.Dec.{leb}
 use lib.Pow.{pow-mono}
 use Rattle.std.proofs.shelf.Tests.{leb-true, leb-false, cases-bool, cases-lt}
-use Rattle.gate.specs.Leaks.{Most, mostFrom, mostOf}
+use Rattle.promise.specs.Leaks.{Most, mostFrom, mostOf}
 
 -- the largest is the last that fits
 pub most-last : (q span n : ℕ) → q * (2 ^ n - 1) ≤ span → span < q * (2 ^ suc n - 1) → Most q span n

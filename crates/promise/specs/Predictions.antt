@@ -10,8 +10,8 @@ use lib.Dec.{leb}
 use Rattle.std.specs.declared.option.Option.{Option}
 use Rattle.std.specs.declared.option.Option.the-variants.{None, Some}
 use Rattle.source.specs.Replies.{horizon}
-use Rattle.gate.specs.Rules.{Rules}
-use Rattle.gate.specs.declared.predict.Settled.{Settled}
+use Rattle.promise.specs.Rules.{Rules}
+use Rattle.promise.specs.declared.release.Settled.{Settled}
 
 -- of class c, from a base, with so many own and all misses
 abbrev pub predict : Rules → ℕ → ℕ → ℕ → ℕ → ℕ

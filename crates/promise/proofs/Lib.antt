@@ -1,0 +1,5 @@
+pub mod Sums
+pub mod Settling
+pub mod Releases
+pub mod Nexts
+pub mod Mosts
