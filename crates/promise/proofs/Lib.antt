@@ -1,5 +1,13 @@
 pub mod Sums
 pub mod Settling
+pub mod Standings
 pub mod Releases
+pub mod Calls
+pub mod Running
+pub mod Listing
+pub mod Bodiless
+pub mod Ticks
+pub mod Pigeons
+pub mod Records
 pub mod Nexts
 pub mod Mosts

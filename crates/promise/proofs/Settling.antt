@@ -160,3 +160,38 @@ settle-settles (suc f) m c ready base own all s e =
       | inr z ↦ subst (λ k. Settles m c ready base own all k (s .tick)) (sym (z .1 .1))
           (leb-false ready p (z .0), le, settle-settles f m c ready p (suc own) (suc all) (record { tick = s .tick; misses = z .1 .0 }) (z .1 .2))
     ]
+
+-- one miss within the horizon takes the base past the next power of two
+power-more : (m : Rules) → Laws m → (c j base own all : ℕ) → c ≤ 7 → own ≤ all → j ≤ own → 2 ^ j ≤ base + 1
+    → predict m c base own all ≤ horizon → 2 ^ suc j ≤ predict m c base own all + 1
+power-more m laws c j base own all hc h hj b hp =
+    let g : m .quantum c * 2 ^ own ≤ m .wait c (m .epoch own all) = wait-grows m laws c own all base hc h hp in
+    let q : 1 * 2 ^ own ≤ m .quantum c * 2 ^ own = mul-le-mul-right (2 ^ own) (laws .pace .quantum-low c hc) in
+    let w : 2 ^ j ≤ 2 ^ own = pow-mono hj in
+    rw (pow-suc 2 j) (omega (arith, g, q, w, b))
+
+from-none : (inside timely : Bool) (p : ℕ) (later : Option Settled) → None ≡ judged inside timely p later
+    → (inside ≡ false) ⊎ ((inside ≡ true) × (timely ≡ false) × (None ≡ later))
+from-none false timely p later e = inl refl
+from-none true true p later e = absurd (let z : _≡_ {A = ℕ} 0 1 = cc in omega arith)
+from-none true false p (Some x) e = absurd (let z : _≡_ {A = ℕ} 0 1 = cc in omega arith)
+from-none true false p None e = inr (refl, refl, refl)
+
+-- the computation ends only where the rules do: j misses were charged, and so many rounds are left of 30
+pub settle-passes : (f j : ℕ) → j + f ≡ 30 → (m : Rules) → Laws m → (c : ℕ) → c ≤ 7 → (ready base own all : ℕ)
+    → own ≤ all → j ≤ own → 2 ^ j ≤ base + 1 → base ≤ horizon
+    → None ≡ settle f m c ready base own all → (k : ℕ) × Passes m c ready base own all k
+settle-passes zero j ef m laws c hc ready base own all h hj b hb e =
+    let j₃ : j ≡ 30 = omega arith in
+    let g : 2 ^ 30 ≤ base + 1 = subst (λ x. 2 ^ x ≤ base + 1) j₃ b in
+    absurd (omega arith)
+settle-passes (suc f) j ef m laws c hc ready base own all h hj b hb e =
+    let p : ℕ = predict m c base own all in
+    elim (from-none (leb p horizon) (leb ready p) p (settle f m c ready p (suc own) (suc all)) e) [
+      | inl z ↦ (0, leb-false p horizon z)
+      | inr z ↦
+          (let le : p ≤ horizon = leb-true p horizon (z .0) in
+          let r = settle-passes f (suc j) (omega arith) m laws c hc ready p (suc own) (suc all) (omega arith) (omega arith)
+              (power-more m laws c j base own all hc h hj b le) le (z .2) in
+          (suc (r .0), (leb-false ready p (z .1), le, r .1)))
+    ]
