@@ -9,5 +9,7 @@ pub mod Bodiless
 pub mod Ticks
 pub mod Pigeons
 pub mod Records
+pub mod Cuts
+pub mod Kept
 pub mod Nexts
 pub mod Mosts

@@ -45,3 +45,15 @@ sum-capped cap i (x ∷ xs) h =
     let ih : sum xs ≤ sumFrom cap (suc i) (length xs)
     = sum-capped cap (suc i) xs (λ j hj. let e : i + suc j ≡ suc i + j = omega arith in subst (λ n. getD xs j 0 ≤ cap n) e (h (suc j) (omega arith))) in
     omega (arith, a, ih, sumBy-cons (λ y. y) x xs)
+
+sum-from-more : (i n x : ℕ) (xs : List ℕ) → sumFrom (λ j. getD (x ∷ xs) j 0) (suc i) n ≡ sumFrom (λ j. getD xs j 0) i n
+sum-from-more i zero x xs = refl
+sum-from-more i (suc n) x xs = ap (λ z. getD xs i 0 + z) (sum-from-more (suc i) n x xs)
+
+-- a sum, place by place
+pub sum-from : (xs : List ℕ) (n : ℕ) → length xs ≡ n → sum xs ≡ sumFrom (λ j. getD xs j 0) 0 n
+sum-from [] zero e = refl
+sum-from [] (suc n) e = absurd (omega arith)
+sum-from (x ∷ xs) zero e = absurd (omega arith)
+sum-from (x ∷ xs) (suc n) e =
+    omega (arith, sumBy-cons (λ y. y) x xs, sum-from xs n (omega arith), sum-from-more 0 n x xs)
