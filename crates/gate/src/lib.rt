@@ -5,6 +5,8 @@ ghost use Rattle.std.specs.declared.result.Result.the-variants.{Err};
 ghost use Rattle.source.specs.Replies.{first};
 ghost use Rattle.source.specs.declared.reply.End.{End};
 ghost use Rattle.promise.specs.Views.{opened, settled, base, moved, released, ending, answer, release, next, Timely};
+ghost use Rattle.promise.specs.Rules.{rulesOf};
+ghost use Rattle.promise.specs.Promise.{Promise};
 ghost use Rattle.gate.specs.Gates.{viewOf, rulesIn, standingOf};
 ghost use Rattle.std.specs.Vec.{made};
 use ledger::Ledger;
@@ -54,6 +56,7 @@ impl<S: Source, P: Pace, R: Penalty> Gate<S, P, R> {
         ensures source { λ g. ⌜ g .source ≡ source ⌝ }
         ensures pace { λ g. ⌜ g .pace ≡ pace ⌝ }
         ensures penalty { λ g. ⌜ g .penalty ≡ penalty ⌝ }
+        ensures promise { λ _. ⌜ Promise (rulesOf P·Pace R·Penalty pace penalty) (S·Source .coming source) (S·Source .mark source) (opening .tick) ⌝ }
     {
         let tick = opening.tick();
         let rows = [Row {

@@ -91,14 +91,17 @@ module _ (m : Rules) (laws : Laws m) (st : Standing) (start : Start st) (keys : 
       = ran (w .rules) (w .laws) (w .view) (subst Start (sym (w .stands)) start) (w .known) (w .steps) (w .runs) .freed in
       let f : Freed m st rs (replies (w .steps)) ks
       = freed-alike m (w .rules) (w .alike) st rs (replies (w .steps)) ks (w .known)
-          (subst (λ z. Freed (w .rules) z rs (replies (w .steps)) ks) (w .stands) f₀) in
+      (subst (λ z. Freed (w .rules) z rs (replies (w .steps)) ks) (w .stands) f₀) in
       let fine : All (Fine m (st .clock) t (weight m st) caps) rs
       = all-both (λ r. r .«class» ≤ 7) (λ r. occurs (keysOf rs) (r .«class») ≡ true) (Fine m (st .clock) t (weight m st) caps)
-          (λ r hc oc. (hc, λ i hi.
+      (λ r hc oc. (
+        hc,
+        λ i hi.
             subst (λ z. i ≤ own st (r .«class») + z)
             (ap (share (n (r .«class»))) (sym (subst (λ z. occurs z (r .«class») ≡ true) (w .agrees) oc)))
-            (room (r .«class») hc i hi)))
-          rs (w .known) (occurs-each rs) in
+            (room (r .«class») hc i hi),
+      ))
+      rs (w .known) (occurs-each rs) in
       let c : Cut m t (sumFrom caps 0 8) st (keysOf rs) (releaseList (w .steps))
       = cut m laws (st .clock) t (weight m st) caps st (sound-start m st start) (λ d hd. omega arith) rs fine (replies (w .steps)) ks f in
       let js : List ℕ = c .misses in (
@@ -114,7 +117,7 @@ module _ (m : Rules) (laws : Laws m) (st : Standing) (start : Start st) (keys : 
       let s : ℕ = over 8 n (occurs keys) in
       let a : length lists ≤ length (every (length keys) s)
       = pigeons (λ xs js. xs ≡ ticks m st keys js) (λ x z y p q. p ∙ sym q) lists (every (length keys) s)
-          (all-map (SeenOn m st keys t) (λ xs. (js : List ℕ) × In js (every (length keys) s) × (xs ≡ ticks m st keys js)) coded lists seen) different in
+      (all-map (SeenOn m st keys t) (λ xs. (js : List ℕ) × In js (every (length keys) s) × (xs ≡ ticks m st keys js)) coded lists seen) different in
       let b : length (every (length keys) s) ≤ suc (length keys) ^ suc s = every-length (length keys) s in
       let e₁ : suc (length keys) ≡ length keys + 1 = omega arith in
       let e₂ : suc s ≡ 1 + s = omega arith in

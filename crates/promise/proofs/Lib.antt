@@ -3,6 +3,7 @@ pub mod Settling
 pub mod Standings
 pub mod Releases
 pub mod Calls
+pub mod Requests
 pub mod Running
 pub mod Listing
 pub mod Bodiless
@@ -11,5 +12,6 @@ pub mod Pigeons
 pub mod Records
 pub mod Cuts
 pub mod Kept
+pub mod FourQuotes
 pub mod Nexts
 pub mod Mosts

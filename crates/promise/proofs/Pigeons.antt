@@ -63,5 +63,5 @@ module _ {X Y : Type 0} where
       let c : Coded x y = a .0 .2 in
       let rest : All (λ z. (w : Y) × In w (without ys y p) × Coded z w) xs
       = all-both (λ z. (w : Y) × In w ys × Coded z w) (λ z. x ≡ z → ⊥) (λ z. (w : Y) × In w (without ys y p) × Coded z w)
-          (λ z g ne. (g .0, in-without ys y p (g .0) (g .1) (λ e. ne (one x z y c (subst (Coded z) e (g .2)))), g .2)) xs (a .1) (d .0) in
+      (λ z g ne. (g .0, in-without ys y p (g .0) (g .1) (λ e. ne (one x z y c (subst (Coded z) e (g .2)))), g .2)) xs (a .1) (d .0) in
       omega (arith, pigeons Coded one xs (without ys y p) rest (d .1), length-without ys y p)

@@ -56,7 +56,7 @@ spread-length f b h (suc s) =
     let up : b ^ suc s * b ≤ x * b = mul-le-mul-right b (pow-le-pow-left (omega arith) (suc s)) in
     let ih : suc (length (spread f s)) ≤ x = spread-length f b h s in
     let e : suc b ^ suc (suc s) ≡ x * suc b = pow-suc (suc b) (suc s) in
-    rw (e, length-append, length-map, length-map) (omega (arith, g, up, ih))
+    rw (e, length-append, length-map (f (suc s)) (λ ks. 0 ∷ ks), length-map (spread f s) bump) (omega (arith, g, up, ih))
 
 one-pow : (s : ℕ) → 1 ^ s ≡ 1
 one-pow zero = refl

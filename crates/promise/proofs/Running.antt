@@ -88,8 +88,8 @@ module _ {B : Type 0} where
         let by : SettlesAt m st r (s .misses) (s .tick) = settled-settles m st r s (sym (g .settled-is)) in
         let out : Outcome m o z a u xs ks n
         = subst (λ y. Outcome m o z y u xs ks n) e
-            (ih (subst (λ (y : View B). Sound m o z (y .standing)) (sym e) (sound-charged m laws o z st sound r (each-known .0) s by .0))
-            (subst (λ (y : View B). Known (y .coming)) (sym e) (each-known .1))) in
+        (ih (subst (λ (y : View B). Sound m o z (y .standing)) (sym e) (sound-charged m laws o z st sound r (each-known .0) s by .0))
+        (subst (λ (y : View B). Known (y .coming)) (sym e) (each-known .1))) in
         let inside : r .«class» < length (st .misses) = omega (arith, sound .size, each-known .0) in
         let k : ℕ = all (w .standing) - all st in
         let ek : k ≡ s .misses
@@ -118,7 +118,7 @@ module _ {B : Type 0} where
         let e : w ≡ v = g .0 in
         let out : Outcome m o z v u xs ks n
         = subst (λ y. Outcome m o z y u xs ks n) e
-            (ih (subst (λ (y : View B). Sound m o z (y .standing)) (sym e) sound) (subst (λ (y : View B). Known (y .coming)) (sym e) known)) in
+        (ih (subst (λ (y : View B). Sound m o z (y .standing)) (sym e) sound) (subst (λ (y : View B). Known (y .coming)) (sym e) known)) in
         record {
           freed = out .freed;
           each = out .each ∙ ap (take n) (g .1) ∙ take-none n ∙ ap (take (suc n)) (sym (g .1));

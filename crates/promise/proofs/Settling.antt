@@ -192,6 +192,6 @@ settle-passes (suc f) j ef m laws c hc ready base own all h hj b hb e =
       | inr z ↦
           (let le : p ≤ horizon = leb-true p horizon (z .0) in
           let r = settle-passes f (suc j) (omega arith) m laws c hc ready p (suc own) (suc all) (omega arith) (omega arith)
-              (power-more m laws c j base own all hc h hj b le) le (z .2) in
+          (power-more m laws c j base own all hc h hj b le) le (z .2) in
           (suc (r .0), (leb-false ready p (z .1), le, r .1)))
     ]

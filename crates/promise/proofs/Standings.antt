@@ -52,7 +52,7 @@ module _ {B : Type 0} where
       let c : ℕ = r .«class» in
       let b : ℕ = base st (r .asked) in
       let g = slow m laws c hc (r .ready) o (z c) b (own st c) (all st) (s .misses) (s .tick) (part-of-sum (st .misses) c)
-          (omega (arith, sound .slowly c hc)) by in
+      (omega (arith, sound .slowly c hc)) by in
       let lt : st .clock < s .tick = omega (arith, g .1) in
       let inside : c < length (st .misses) = omega (arith, sound .size) in (
         record {

@@ -122,6 +122,9 @@ module _ (m n : Rules) (alike : Alike m n) where
   freed-alike st rs [] (k ∷ ks) u f = elim f [ ]
   freed-alike st rs (x ∷ xs) [] u f = elim f [ ]
   freed-alike st [] (x ∷ xs) (k ∷ ks) u f = elim f [ ]
-  freed-alike st (r ∷ rs) (x ∷ xs) (k ∷ ks) u f =
-      ( f .0, f .1, settles-alike (r .«class») (u .0) (r .ready) _ _ _ k (x .ready) (f .2)
-      , freed-alike (stands st r k (x .ready)) rs xs ks (u .1) (f .3))
+  freed-alike st (r ∷ rs) (x ∷ xs) (k ∷ ks) u f = (
+    f .0,
+    f .1,
+    settles-alike (r .«class») (u .0) (r .ready) _ _ _ k (x .ready) (f .2),
+    freed-alike (stands st r k (x .ready)) rs xs ks (u .1) (f .3),
+  )

@@ -5,3 +5,4 @@ pub mod Leaks
 pub mod Runs
 pub mod Bodies
 pub mod Promise
+pub mod Telling

@@ -7,6 +7,7 @@
 --   releaseList   their release ticks; `missRecord`, the misses that the take of each charged
 --   takes         how often take was called
 --   left          what the gate shows in the end
+--   run           the one run that a list of requests has
 --   Played        calls that were asked for in one buffer and are reported in another are a run
 use mathlib.Core.Path.{_≡_}
 use mathlib.Core.List.{List, [], _∷_, _++_, map}
@@ -114,6 +115,19 @@ module _ {B : Type 0} where
   abbrev pub left : View B → List (Step B) → View B
   left v [] = v
   left v (s ∷ h) = left (s .after) h
+
+  -- a request with the answer that the rules give, and the run of a list of requests
+  abbrev pub told : Rules → View B → Request → Event B
+  told m v request.Head = Head (answer m v)
+  told m v request.Lapses = Lapses (lapses m v)
+  told m v request.Take = Take (answer m v)
+  told m v (request.Misses c) = Misses c (ofClass c (own (v .standing) c))
+  told m v request.Clock = Clock (v .standing .clock)
+  told m v request.Released = Released (v .taken)
+
+  abbrev pub run : Rules → View B → List Request → List (Step B)
+  run m v [] = []
+  run m v (q ∷ qs) = record { event = told m v q; after = after m v (told m v q) } ∷ run m (after m v (told m v q)) qs
 
   -- The first n requests were made, one after another, as many as both buffers hold; the reports are those calls with
   -- their answers, and what was in the buffer behind them stays.

@@ -2,3 +2,4 @@
 // How a gate predicts and what it promises stands in the definitions beside them.
 pub mod event;
 pub mod release;
+pub mod telling;
