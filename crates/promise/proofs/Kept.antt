@@ -152,6 +152,15 @@ room-fresh m o t ot n most c hc i h =
     let g = most c hc .largest i (slow-form (m .quantum c) i o t (omega (arith, h, no-misses m o c)) ot) in
     omega (arith, g)
 
+-- there are few release lists over any keys, up to any tick from the opening on
+pub few-keys : (m : Rules) → Laws m → (o t : ℕ) → o ≤ horizon → o ≤ t → (keys : List Key)
+    → (n : ℕ → ℕ) → ((c : ℕ) → c ≤ 7 → Most (m .quantum c) (t - o) (n c))
+    → (lists : List (List ℕ)) → All (Seen m o keys t) lists → Different lists
+    → length lists ≤ (length keys + 1) ^ (1 + over 8 n (occurs keys))
+few-keys m laws o t ho ot keys n most lists seen different =
+    few-on m laws (fresh o) (start-fresh o ho) keys t n (room-fresh m o t ot n most) lists
+    (all-map (Seen m o keys t) (SeenOn m (fresh o) keys t) (λ xs w. seen-on m o keys t xs w) lists seen) different
+
 pub kept : {B : Type 0} (m : Rules) → Laws m → (rs : List (Reply B)) → Lawful rs → (e : End) (o : ℕ) → o ≤ horizon → Promise m rs e o
 kept m laws rs lawful e o ho =
     let start : Start (fresh o) = start-fresh o ho in
@@ -175,6 +184,5 @@ kept m laws rs lawful e o ho =
           (omega (arith, s .slowly c hc, no-misses m o c)) (s .since);
       few = λ t ot ht n most lists seen different.
           subst (λ z. length lists ≤ (z + 1) ^ (1 + over 8 n (occurs (keysOf rs)))) (length-keys rs)
-          (few-on m laws (fresh o) start (keysOf rs) t n (room-fresh m o t ot n most) lists
-          (all-map (Seen m o (keysOf rs) t) (SeenOn m (fresh o) (keysOf rs) t) (λ xs w. seen-on m o (keysOf rs) t xs w) lists seen) different);
+          (few-keys m laws o t ho ot (keysOf rs) n most lists seen different);
     }
