@@ -2,10 +2,11 @@
 ghost use mathlib.Core.Path.{_≡_};
 ghost use Prim.Native.Nat.{_≤_};
 ghost use Rattle.std.specs.declared.result.Result.the-variants.{Err};
-ghost use Rattle.source.specs.Replies.{first};
 ghost use Rattle.source.specs.declared.reply.End.{End};
-ghost use Rattle.promise.specs.Views.{opened, settled, base, moved, released, ending, answer, release, next, Timely};
 ghost use Rattle.promise.specs.Rules.{rulesOf};
+ghost use Rattle.promise.specs.Views.{opened, settled, base, moved, released, ending, release, replyOf, Timely};
+ghost use Rattle.promise.specs.declared.event.Event.the-variants as event;
+ghost use Rattle.promise.specs.Runs.{Call};
 ghost use Rattle.promise.specs.Promise.{Promise};
 ghost use Rattle.gate.specs.Gates.{viewOf, rulesIn, standingOf};
 ghost use Rattle.std.specs.Vec.{made};
@@ -13,6 +14,7 @@ use ledger::Ledger;
 use opening::Opening;
 use pace::Pace;
 use pace::Penalty;
+use pace::fault::UnknownClass;
 use predict::Pending;
 use predict::settle;
 use promise::release::Release;
@@ -20,6 +22,7 @@ use promise::release::Settled;
 use row::Row;
 use source::Source;
 use source::reply::End;
+use source::reply::LAST_CLASS;
 use source::reply::Reply;
 use source::reply::ReplyClone;
 
@@ -77,14 +80,6 @@ impl<S: Source, P: Pace, R: Penalty> Gate<S, P, R> {
         }
     }
 
-    // The last release tick, or else the opening.
-    pub fn clock(&self) -> u32
-        ensures value { λ r. ⌜ r ≡ viewOf S·Source (now (self .entry)) .standing .clock ⌝ }
-        ensures within { λ r. ⌜ r ≤ 1000000000 ⌝ }
-    {
-        self.ledger.clock
-    }
-
     // The pace of the gate.
     pub fn pace(&self) -> &P
         ensures { λ r. ⌜ now r ≡ now (self .entry) .pace ⌝ }
@@ -108,46 +103,20 @@ impl<S: Source, P: Pace, R: Penalty> Gate<S, P, R> {
         let pending = Pending {
             class: reply.class,
             ready: reply.ready,
-            own: self.ledger.rows[reply.class as usize].misses,
+            own: self.ledger.misses(reply.class),
             all: self.ledger.all_misses,
             base: self.base(reply.asked),
         };
         settle(&self.pace, &self.penalty, pending)
     }
 
-    // The next reply as it will be released. Charges nothing.
-    pub fn head(&self) -> Result<Reply<S::Body>, End>
-        ensures { λ r. ⌜ r ≡ answer (rulesIn P·Pace R·Penalty (now (self .entry))) (viewOf S·Source (now (self .entry))) ⌝ }
+    // The next reply as it will be released, with its misses.
+    fn upcoming(&self) -> Result<Release<S::Body>, End>
+        ensures { λ r. ⌜ r ≡ release (rulesIn P·Pace R·Penalty (now (self .entry))) (viewOf S·Source (now (self .entry))) ⌝ }
     {
         let reply = self.source.head()?;
         let Some(settled) = self.settle(reply) else {
             return Err(End::Horizon);
-        };
-        Ok(moved(reply, settled.tick))
-    }
-
-    // Lets the next reply go: charges its misses, moves the clock, and answers the reply with its misses.
-    // Refused, it leaves the whole gate as it was.
-    pub fn release(&mut self) -> Result<Release<S::Body>, End>
-        ensures value { λ r. ⌜ r ≡ release (rulesIn P·Pace R·Penalty (now (self .entry))) (viewOf S·Source (now (self .entry))) ⌝ }
-        ensures after { λ _. ⌜ viewOf S·Source (now (self .exit)) ≡ next (rulesIn P·Pace R·Penalty (now (self .entry))) (viewOf S·Source (now (self .entry))) ⌝ }
-        ensures same { λ _. ⌜ rulesIn P·Pace R·Penalty (now (self .exit)) ≡ rulesIn P·Pace R·Penalty (now (self .entry)) ⌝ }
-        ensures refused { λ r. ⌜ ((e : End) → r ≡ Err e → now (self .exit) ≡ now (self .entry)) ⌝ }
-        ensures timely { λ r. ⌜ made r (Timely (viewOf S·Source (now (self .entry)) .standing .clock)) ⌝ }
-    {
-        let reply = self.source.head()?;
-        let Some(settled) = self.settle(reply) else {
-            return Err(End::Horizon);
-        };
-        let _ = self.source.take();
-        let mut rows = self.ledger.rows;
-        rows[reply.class as usize].charge(settled.misses);
-        let all_misses = self.ledger.all_misses + settled.misses;
-        self.ledger = Ledger {
-            opening: self.ledger.opening,
-            clock: settled.tick,
-            all_misses,
-            rows,
         };
         Ok(Release {
             reply: moved(reply, settled.tick),
@@ -155,10 +124,73 @@ impl<S: Source, P: Pace, R: Penalty> Gate<S, P, R> {
         })
     }
 
-    // Lets the next reply go, as `release` does.
+    // The next reply as it will be released. Charges nothing.
+    pub fn head(&self) -> Result<Reply<S::Body>, End>
+        ensures call { λ r. ⌜ Call (rulesIn P·Pace R·Penalty (now (self .entry))) (viewOf S·Source (now (self .entry))) (event.Head r) (viewOf S·Source (now (self .entry))) ⌝ }
+    {
+        let next = self.upcoming()?;
+        Ok(next.reply)
+    }
+
+    // The misses that the next reply will have. Charges nothing.
+    pub fn lapses(&self) -> Result<u32, End>
+        ensures call { λ r. ⌜ Call (rulesIn P·Pace R·Penalty (now (self .entry))) (viewOf S·Source (now (self .entry))) (event.Lapses r) (viewOf S·Source (now (self .entry))) ⌝ }
+    {
+        let next = self.upcoming()?;
+        Ok(next.misses)
+    }
+
+    // The misses that a class was charged.
+    pub fn misses(&self, class: u8) -> Result<u32, UnknownClass>
+        ensures call { λ r. ⌜ Call (rulesIn P·Pace R·Penalty (now (self .entry))) (viewOf S·Source (now (self .entry))) (event.Misses «class» r) (viewOf S·Source (now (self .entry))) ⌝ }
+    {
+        if class > LAST_CLASS {
+            return Err(UnknownClass);
+        }
+        Ok(self.ledger.misses(class))
+    }
+
+    // The last release tick, or else the opening.
+    pub fn clock(&self) -> u32
+        ensures call { λ r. ⌜ Call (rulesIn P·Pace R·Penalty (now (self .entry))) (viewOf S·Source (now (self .entry))) (event.Clock r) (viewOf S·Source (now (self .entry))) ⌝ }
+        ensures within { λ r. ⌜ r ≤ 1000000000 ⌝ }
+    {
+        self.ledger.clock
+    }
+
+    // How many replies were taken.
+    pub fn released(&self) -> u32
+        ensures call { λ r. ⌜ Call (rulesIn P·Pace R·Penalty (now (self .entry))) (viewOf S·Source (now (self .entry))) (event.Released r) (viewOf S·Source (now (self .entry))) ⌝ }
+    {
+        self.ledger.released()
+    }
+
+    // Lets the next reply go: charges its misses, moves the clock, and answers the reply with its misses.
+    // Refused, it leaves the whole gate as it was.
+    pub fn release(&mut self) -> Result<Release<S::Body>, End>
+        ensures value { λ r. ⌜ r ≡ release (rulesIn P·Pace R·Penalty (now (self .entry))) (viewOf S·Source (now (self .entry))) ⌝ }
+        ensures call { λ r. ⌜ Call (rulesIn P·Pace R·Penalty (now (self .entry))) (viewOf S·Source (now (self .entry))) (event.Take (replyOf r)) (viewOf S·Source (now (self .exit))) ⌝ }
+        ensures same { λ _. ⌜ rulesIn P·Pace R·Penalty (now (self .exit)) ≡ rulesIn P·Pace R·Penalty (now (self .entry)) ⌝ }
+        ensures refused { λ r. ⌜ ((e : End) → r ≡ Err e → now (self .exit) ≡ now (self .entry)) ⌝ }
+        ensures timely { λ r. ⌜ made r (Timely (viewOf S·Source (now (self .entry)) .standing .clock)) ⌝ }
+    {
+        let next = self.upcoming()?;
+        let _ = self.source.take();
+        let mut rows = self.ledger.rows;
+        rows[next.reply.class as usize].charge(next.misses);
+        let all_misses = self.ledger.all_misses + next.misses;
+        self.ledger = Ledger {
+            opening: self.ledger.opening,
+            clock: next.reply.ready,
+            all_misses,
+            rows,
+        };
+        Ok(next)
+    }
+
+    // Lets the next reply go, as `release` does, and answers the reply alone.
     pub fn take(&mut self) -> Result<Reply<S::Body>, End>
-        ensures value { λ r. ⌜ r ≡ answer (rulesIn P·Pace R·Penalty (now (self .entry))) (viewOf S·Source (now (self .entry))) ⌝ }
-        ensures after { λ _. ⌜ viewOf S·Source (now (self .exit)) ≡ next (rulesIn P·Pace R·Penalty (now (self .entry))) (viewOf S·Source (now (self .entry))) ⌝ }
+        ensures call { λ r. ⌜ Call (rulesIn P·Pace R·Penalty (now (self .entry))) (viewOf S·Source (now (self .entry))) (event.Take r) (viewOf S·Source (now (self .exit))) ⌝ }
         ensures same { λ _. ⌜ rulesIn P·Pace R·Penalty (now (self .exit)) ≡ rulesIn P·Pace R·Penalty (now (self .entry)) ⌝ }
         ensures refused { λ r. ⌜ ((e : End) → r ≡ Err e → now (self .exit) ≡ now (self .entry)) ⌝ }
     {

@@ -1,6 +1,7 @@
 // How a release tick is predicted.
 ghost use mathlib.Core.Path.{_≡_};
-ghost use Prim.Native.Nat.{ℕ, _+_, _<_, _≤_};
+ghost use Prim.Native.Nat.{_+_, _^_, _<_, _≤_};
+ghost use lib.Dec.{leb};
 ghost use Rattle.promise.specs.Rules.{rulesOf};
 ghost use Rattle.promise.specs.Predictions.{predict, Predicted, Comes};
 use pace::Pace;
@@ -17,6 +18,30 @@ pub struct Pending {
     pub(crate) own: u32,
     pub(crate) all: u32,
     pub(crate) base: u32,
+}
+
+impl Pending {
+    // Whether the reply is ready by a tick.
+    fn ready_by(&self, tick: u32) -> bool
+        ensures { λ r. ⌜ r ≡ leb (now (self .entry) .ready) tick ⌝ }
+    {
+        self.ready <= tick
+    }
+
+    // After a prediction was missed: one miss more, and that prediction is the new base.
+    fn missed(&self, tick: u32) -> Pending
+        requires few { ⌜ now self .all + 1 < 2 ^ 32 ⌝ }
+        requires part { ⌜ now self .own ≤ now self .all ⌝ }
+        ensures { λ r. ⌜ r ≡ record { «class» = now (self .entry) .«class»; ready = now (self .entry) .ready; own = now (self .entry) .own + 1; all = now (self .entry) .all + 1; base = tick } ⌝ }
+    {
+        Pending {
+            class: self.class,
+            ready: self.ready,
+            own: self.own + 1,
+            all: self.all + 1,
+            base: tick,
+        }
+    }
 }
 
 // One prediction: the base and the wait that the misses call for, or nothing where that passes the horizon.
@@ -54,16 +79,10 @@ pub(crate) fn settle<P: Pace, R: Penalty>(
         let Some(tick) = prediction(pace, penalty, next) else {
             return None;
         };
-        if next.ready <= tick {
+        if next.ready_by(tick) {
             return Some(Settled { tick, misses });
         }
         misses += 1;
-        next = Pending {
-            class: pending.class,
-            ready: pending.ready,
-            own: next.own + 1,
-            all: next.all + 1,
-            base: tick,
-        };
+        next = next.missed(tick);
     }
 }

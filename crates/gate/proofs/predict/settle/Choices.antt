@@ -6,8 +6,8 @@ use Rattle.gate.proofs.predict.settle.Given as given
 
 abbrev pub Inv-loop-tick : given.InvT-loop-tick
 Inv-loop-tick g l =
-    (l .next .«class» ≡ l .pending .«class») × (l .next .ready ≡ l .pending .ready)
-    × Onward (rulesOf (g .P·Pace) (g .R·Penalty) (l .pace) (l .penalty)) (l .pending .«class») (l .pending .ready) (l .pending .base) (l .pending .own) (l .pending .all)
+    (l .next .«class» ≡ l .entry .next .«class») × (l .next .ready ≡ l .entry .next .ready)
+    × Onward (rulesOf (g .P·Pace) (g .R·Penalty) (l .pace) (l .penalty)) (l .entry .next .«class») (l .entry .next .ready) (l .entry .next .base) (l .entry .next .own) (l .entry .next .all)
     (l .misses) (l .next .base) (l .next .own) (l .next .all)
 
 abbrev pub μ-loop-tick : given.MeasureT-loop-tick
