@@ -21,6 +21,9 @@ pub record Sound (s : Shape) : Type 0 where
   pub narrow : s .width ≤ 19
   pub holds : s .limit < 10 ^ s .width
 
+pub sound-shape : (w l : ℕ) → 1 ≤ w → w ≤ 19 → l < 10 ^ w → Sound (shape w l)
+sound-shape w l a b c = record { some = a; narrow = b; holds = c }
+
 abbrev pub AllSound : List Shape → Type 0
 AllSound [] = Unit {0}
 AllSound (s ∷ ss) = Sound s × AllSound ss

@@ -1,21 +1,23 @@
 -- Reading a field gives just the number that it shows.
 use mathlib.Core.Path.{_≡_, refl, sym, _∙_, ap, subst}
-use mathlib.Core.Bool.{Bool, true, false}
+use mathlib.Core.Bool.{Bool, true, false, cond}
 use mathlib.Core.List.{List, [], _∷_, _++_, append-assoc}
 use mathlib.Core.Logic.{_⊎_, inl, inr}
 use Prim.Native.Nat.{ℕ, zero, suc, _+_, _-_, _*_, _/_, _%_, _^_, _<_, _≤_}
 use native.Mathlib.Omega.{arith}
 use native.Mathlib.Nat.{pow-le-pow-right}
+use native.Mathlib.Numerals.{add-one}
+use lib.Pow.{pow-add}
 use lib.Dec.{eqb, lit<}
 use lib.ListN.{length, replicate, length-append, length-replicate}
-use Rattle.std.specs.Written.{decimal}
+use Rattle.std.specs.Written.{decimal, digits, spelled, glyph}
 use Rattle.std.specs.declared.option.Option.{Option}
 use Rattle.std.specs.declared.option.Option.the-variants.{None, Some}
 use Rattle.std.specs.declared.result.Result.{Result}
 use Rattle.std.specs.declared.result.Result.the-variants.{Ok, Err}
 use Rattle.std.proofs.shelf.Decimals.{decimal-digit, decimal-step, decimal-by-steps}
 use Rattle.std.proofs.shelf.Lists.{append-nil}
-use Rattle.std.proofs.shelf.Tests.{cases-lt, le-leb, lt-leb, ne-eqb}
+use Rattle.std.proofs.shelf.Tests.{cases-bool, cases-lt, le-leb, lt-leb, ne-eqb}
 use Rattle.std.proofs.shelf.Ways.{tells}
 use Rattle.rows.specs.declared.field.FieldFault.{FieldFault}
 use Rattle.rows.specs.declared.field.FieldFault.the-variants.{Form, Limit}
@@ -98,41 +100,65 @@ shown-scan bs v short e =
     let k : p .0 ≡ length bs - length (decimal v) = omega arith in
     p .1 ∙ ap (λ m. replicate m 32 ++ decimal v) k
 
-tail-small : (bs : List ℕ) (k a v : ℕ) → a < 10 ^ k → k + length bs ≤ 19 → scan true a bs ≡ Some v → v < 10 ^ 19
-tail-small [] k a v small fits e =
-    let same : a ≡ v = cc in
-    let h : k ≤ 19 = omega arith in
-    let p : 10 ^ k ≤ 10 ^ 19 = pow-le-pow-right (lit< tt) h in
-    omega arith
-tail-small (b ∷ bs) k a v small fits e =
-    let c = after-digit a b bs v e in
-    tail-small bs (k + 1) (a * 10 + (b - 48)) v (one-digit-more a k (b - 48) small (omega arith)) (omega arith) (c .3)
-
-scan-small : (bs : List ℕ) (v : ℕ) → length bs ≤ 19 → scan false 0 bs ≡ Some v → v < 2 ^ 64
-scan-small [] v short e = let z : _≡_ {A = ℕ} 0 1 = cc in absurd (omega arith)
-scan-small (b ∷ bs) v short e =
-    elim (first-byte b bs v e) [
-      | inl h ↦ scan-small bs v (omega arith) (h .1)
-      | inr h ↦ let t : v < 10 ^ 19 = tail-small bs 1 (0 * 10 + (b - 48)) v (omega arith) (omega arith) (h .2) in omega arith
-    ]
-
 judged-within : (v limit : ℕ) → v ≤ limit → judged limit (Some v) ≡ Ok v
 judged-within v limit h = rw (le-leb v limit h, judged)
 
 judged-past : (v limit : ℕ) → limit < v → judged limit (Some v) ≡ Err Limit
 judged-past v limit h = rw (lt-leb v limit h, judged)
 
-judged-exact : (bs : List ℕ) (limit : ℕ) (o : Option ℕ) → length bs ≤ 19 → scan false 0 bs ≡ o → FieldExact bs limit (judged limit o)
+-- digits never get fewer, and a number from 10 ^ j on has more than j of them
+spelled-grows : (k n : ℕ) (acc : List ℕ) → length acc ≤ length (spelled k 10 false n acc)
+spelled-grows zero n acc = omega arith
+spelled-grows (suc k) n acc =
+    elim (cases-bool (eqb (n / 10) 0)) [
+      | inl t ↦ rw (t, cond) (omega arith)
+      | inr t ↦ rw (t, cond) (omega (arith, spelled-grows k (n / 10) (glyph false (n % 10) ∷ acc)))
+    ]
+
+spelled-long : (j k n : ℕ) (acc : List ℕ) → j < k → 10 ^ j ≤ n → j + 1 + length acc ≤ length (spelled k 10 false n acc)
+spelled-long j zero n acc h big = absurd (omega arith)
+spelled-long zero (suc k) n acc h big =
+    elim (cases-bool (eqb (n / 10) 0)) [
+      | inl t ↦ rw (t, cond) (omega arith)
+      | inr t ↦ rw (t, cond) (omega (arith, spelled-grows k (n / 10) (glyph false (n % 10) ∷ acc)))
+    ]
+spelled-long (suc j) (suc k) n acc h big =
+    let p : 10 ^ (j + 1) ≡ 10 ^ j * 10 = pow-add 10 j 1 in
+    let z : 0 ≤ j = omega arith in
+    let q : 10 ^ 0 ≤ 10 ^ j = pow-le-pow-right (lit< tt) z in
+    let more : 10 ^ j ≤ n / 10 = omega (arith, ap (λ m. 10 ^ m) (add-one j)) in
+    let t : eqb (n / 10) 0 ≡ false = ne-eqb (n / 10) 0 (λ e. omega arith) in
+    rw (t, cond) (omega (arith, spelled-long j k (n / 10) (glyph false (n % 10) ∷ acc) (omega arith) more))
+
+decimal-long : (v : ℕ) → 10 ^ 19 ≤ v → 20 ≤ length (decimal v)
+unfolding digits
+decimal-long v big = spelled-long 19 64 v [] (lit< tt) big
+
+-- what is shown in at least so many bytes
+pub length-shown-ge : (w v : ℕ) → (w ≤ length (shown w v)) × (length (decimal v) ≤ length (shown w v))
+length-shown-ge w v =
+    let n = length-append (replicate (w - length (decimal v)) 32) (decimal v) ∙ ap (λ m. m + length (decimal v)) (length-replicate (w - length (decimal v)) 32) in
+    (omega arith, omega arith)
+
+-- a number shown in at most 19 bytes is small
+shown-small : (bs : List ℕ) (v : ℕ) → length bs ≤ 19 → bs ≡ shown (length bs) v → v < 2 ^ 64
+shown-small bs v short is =
+    elim (cases-lt v (10 ^ 19)) [
+      | inl low ↦ omega arith
+      | inr big ↦ absurd (let n = ap length is in omega (arith, decimal-long v big, length-shown-ge (length bs) v .1))
+    ]
+
+judged-exact : (bs : List ℕ) (limit : ℕ) (o : Option ℕ) → length bs ≤ 19 → scan false 0 bs ≡ o → FieldExact (length bs) bs limit (judged limit o)
 judged-exact bs limit None short e =
-    λ v small is. let back : scan false 0 bs ≡ Some v = ap (scan false 0) is ∙ scan-shown (length bs) v small in let z : _≡_ {A = ℕ} 0 1 = cc in omega arith
+    λ v is. let back : scan false 0 bs ≡ Some v = ap (scan false 0) is ∙ scan-shown (length bs) v (shown-small bs v short is) in let z : _≡_ {A = ℕ} 0 1 = cc in omega arith
 judged-exact bs limit (Some v) short e =
     elim (cases-lt limit v) [
-      | inl past ↦ rw (judged-past v limit past) (v, scan-small bs v short e, shown-scan bs v short e, past)
+      | inl past ↦ rw (judged-past v limit past) (v, shown-scan bs v short e, past)
       | inr in-limit ↦ rw (judged-within v limit in-limit) (shown-scan bs v short e, in-limit)
     ]
 
 -- a reading is right
-pub field-exact : (bs : List ℕ) (limit : ℕ) → length bs ≤ 19 → FieldExact bs limit (fieldRead bs limit)
+pub field-exact : (bs : List ℕ) (limit : ℕ) → length bs ≤ 19 → FieldExact (length bs) bs limit (fieldRead bs limit)
 field-exact bs limit short = judged-exact bs limit (scan false 0 bs) short refl
 
 -- a number that is shown and within the limit is read
@@ -141,14 +167,14 @@ field-back w v limit small h = ap (judged limit) (scan-shown w v small) ∙ judg
 
 -- the answers of the reader, with their promise
 module _ (bs : List ℕ) (limit : ℕ) (short : length bs ≤ 19) where
-  answered : (r : Result ℕ FieldFault) → r ≡ fieldRead bs limit → (r ≡ fieldRead bs limit) × FieldExact bs limit r
-  answered r e = (e, subst (λ a. FieldExact bs limit a) (sym e) (field-exact bs limit short))
+  answered : (r : Result ℕ FieldFault) → r ≡ fieldRead bs limit → (r ≡ fieldRead bs limit) × FieldExact (length bs) bs limit r
+  answered r e = (e, subst (λ a. FieldExact (length bs) bs limit a) (sym e) (field-exact bs limit short))
 
-  pub no-form : scan false 0 bs ≡ None → (Err Form ≡ fieldRead bs limit) × FieldExact bs limit (Err Form)
+  pub no-form : scan false 0 bs ≡ None → (Err Form ≡ fieldRead bs limit) × FieldExact (length bs) bs limit (Err Form)
   no-form e = answered (Err Form) (rw e)
 
-  pub past-limit : (v : ℕ) → scan false 0 bs ≡ Some v → limit < v → (Err Limit ≡ fieldRead bs limit) × FieldExact bs limit (Err Limit)
+  pub past-limit : (v : ℕ) → scan false 0 bs ≡ Some v → limit < v → (Err Limit ≡ fieldRead bs limit) × FieldExact (length bs) bs limit (Err Limit)
   past-limit v e h = answered (Err Limit) (sym (ap (judged limit) e ∙ judged-past v limit h))
 
-  pub in-limit : (v : ℕ) → scan false 0 bs ≡ Some v → v ≤ limit → (Ok v ≡ fieldRead bs limit) × FieldExact bs limit (Ok v)
+  pub in-limit : (v : ℕ) → scan false 0 bs ≡ Some v → v ≤ limit → (Ok v ≡ fieldRead bs limit) × FieldExact (length bs) bs limit (Ok v)
   in-limit v e h = answered (Ok v) (sym (ap (judged limit) e ∙ judged-within v limit h))

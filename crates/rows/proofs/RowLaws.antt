@@ -6,19 +6,19 @@ use mathlib.Core.Logic.{_⊎_, inl, inr}
 use Prim.Native.Nat.{ℕ, suc, _+_, _^_, _<_, _≤_}
 use native.Mathlib.Omega.{arith}
 use lib.Dec.{eqb}
-use lib.ListN.{length, take, drop, length-append}
+use lib.ListN.{length, take, drop, length-append, length-take}
 use Rattle.std.specs.declared.result.Result.{Result}
 use Rattle.std.specs.declared.result.Result.the-variants.{Ok, Err}
 use Rattle.std.proofs.shelf.Lists.{take-at, drop-at, take-append-drop, length-take-le}
-use Rattle.std.proofs.shelf.Tests.{cases-eq, eq-eqb, ne-eqb, and-from}
+use Rattle.std.proofs.shelf.Tests.{cases-lt, cases-eq, eq-eqb, ne-eqb, and-from}
 use Rattle.rows.specs.declared.field.FieldFault.{FieldFault}
 use Rattle.rows.specs.declared.fault.RowFault.{RowFault}
 use Rattle.rows.specs.declared.fault.RowFault.the-variants.{Field, Newline}
 use Rattle.rows.specs.Fields.{shown, fieldRead, FieldExact}
 use Rattle.rows.specs.Columns.{Shape, widths}
-use Rattle.rows.specs.Rows.{fieldsShown, rowShown, Within, columnRead, ended, before, onField, rowRead, RowExact, fits, writeAnswer}
-use Rattle.rows.proofs.Numerals.{field-exact, field-back}
-use Rattle.rows.proofs.Columns.{whole-column}
+use Rattle.rows.specs.Rows.{fieldsShown, rowShown, Within, columnRead, ended, before, onField, rowRead, RowExact, FirstFault, RowRefused, fits, writeAnswer}
+use Rattle.rows.proofs.Numerals.{length-shown-ge, field-exact, field-back}
+use Rattle.rows.proofs.Columns.{short-column, whole-column}
 use Rattle.rows.proofs.Fitting.{Sound, AllSound, small, digits-fit, fits-within}
 use Rattle.rows.proofs.RowReading.{column-room}
 use Rattle.rows.proofs.RowWriting.{length-shown}
@@ -65,15 +65,22 @@ ended-shown (b ∷ []) vs e =
     nothing p = cc
 ended-shown (b ∷ c ∷ bs) vs e = let z : _≡_ {A = ℕ} 0 1 = cc in absurd (omega arith)
 
+-- a field at the front of a row is read rightly, also where the bytes run out
+column-exact : (s : Shape) → Sound s → (row : List ℕ) → FieldExact (s .width) (take (s .width) row) (s .limit) (columnRead (s .width) (s .limit) row)
+column-exact s ok row =
+    elim (cases-lt (length row) (s .width)) [
+      | inl short ↦
+          rw (short-column (s .width) (s .limit) row short)
+          (λ v is. let n = ap length is in let t = length-take (s .width) row in omega (arith, length-shown-ge (s .width) v .0))
+      | inr room ↦
+          let n : length (take (s .width) row) ≡ s .width = length-take-le (s .width) row room in
+          let x = field-exact (take (s .width) row) (s .limit) (omega (arith, ok .narrow)) in
+          rw (whole-column (s .width) (s .limit) row room) (subst (λ m. FieldExact m (take (s .width) row) (s .limit) (fieldRead (take (s .width) row) (s .limit))) n x)
+    ]
+
 -- a field that was read shows its number
 column-shown : (s : Shape) → Sound s → (row : List ℕ) (v : ℕ) → columnRead (s .width) (s .limit) row ≡ Ok v → (take (s .width) row ≡ shown (s .width) v) × (v ≤ s .limit)
-column-shown s ok row v e =
-    let room : s .width ≤ length row = column-room (s .width) (s .limit) v row e in
-    let n : length (take (s .width) row) ≡ s .width = length-take-le (s .width) row room in
-    let f : fieldRead (take (s .width) row) (s .limit) ≡ Ok v = sym (whole-column (s .width) (s .limit) row room) ∙ e in
-    let short : length (take (s .width) row) ≤ 19 = omega (arith, ok .narrow) in
-    let x : FieldExact (take (s .width) row) (s .limit) (Ok v) = subst (λ a. FieldExact (take (s .width) row) (s .limit) a) f (field-exact (take (s .width) row) (s .limit) short) in
-    (x .0 ∙ ap (λ m. shown m v) n, x .1)
+column-shown s ok row v e = subst (λ a. FieldExact (s .width) (take (s .width) row) (s .limit) a) e (column-exact s ok row)
 
 -- a reading that went well, field by field
 well : (k : ℕ) (r : Result ℕ FieldFault) (next : Result (List ℕ) RowFault) (vs : List ℕ) → onField k r next ≡ Ok vs
@@ -102,6 +109,38 @@ row-shown k (s ∷ ss) row vs ok e =
 pub row-exact : (k : ℕ) (ss : List Shape) (row : List ℕ) (r : Result (List ℕ) RowFault) → AllSound ss → r ≡ rowRead k ss row → RowExact ss row r
 row-exact k ss row (Ok vs) ok e = row-shown k ss row vs ok (sym e)
 row-exact k ss row (Err f) ok e = λ vs w is. let back = ap (rowRead k ss) is ∙ row-back k ss vs ok w in let z : _≡_ {A = ℕ} 0 1 = cc in omega arith
+
+-- after the fields, all but the newline alone is refused
+ended-refused : (row : List ℕ) (f : RowFault) → ended row ≡ Err f → (f ≡ Newline) × (row ≡ 10 ∷ [] → ⊥)
+ended-refused row f e = (fault row f e, λ is. let w = sym (ap ended is) ∙ e in let z : _≡_ {A = ℕ} 0 1 = cc in omega arith)
+  where
+    same : {f g : RowFault} → _≡_ {A = Result (List ℕ) RowFault} (Err f) (Err g) → f ≡ g
+    same p = cc
+
+    fault : (row : List ℕ) (f : RowFault) → ended row ≡ Err f → f ≡ Newline
+    fault [] f e = cc
+    fault (b ∷ []) f e = elim (cases-eq b 10) [
+      | inl is ↦ let w = sym (ap (λ x. ended (x ∷ [])) is) ∙ e in let z : _≡_ {A = ℕ} 0 1 = cc in absurd (omega arith)
+      | inr apart ↦ let n : ended (b ∷ []) ≡ Err Newline = rw (ne-eqb b 10 apart, ended) in same (sym e ∙ n)
+    ]
+    fault (b ∷ c ∷ bs) f e = cc
+
+-- a refusal names the first fault
+pub first-fault : (k : ℕ) (ss : List Shape) (row : List ℕ) (f : RowFault) → AllSound ss → rowRead k ss row ≡ Err f → FirstFault k ss row f
+first-fault k [] row f ok e = ended-refused row f e
+first-fault k (s ∷ ss) row f ok e =
+    at-field (columnRead (s .width) (s .limit) row) (column-exact s (ok .0) row) (rowRead (k + 1) ss (drop (s .width) row)) e
+    (λ g h. first-fault (k + 1) ss (drop (s .width) row) g (ok .1) h)
+  where
+    at-field : (r : Result ℕ FieldFault) → FieldExact (s .width) (take (s .width) row) (s .limit) r → (next : Result (List ℕ) RowFault) → onField k r next ≡ Err f
+        → ((g : RowFault) → next ≡ Err g → FirstFault (k + 1) ss (drop (s .width) row) g) → FirstFault k (s ∷ ss) row f
+    at-field (Ok v) x (Ok us) h later = let z : _≡_ {A = ℕ} 0 1 = cc in absurd (omega arith)
+    at-field (Ok v) x (Err g) h later = let same : g ≡ f = cc in inr (v, x, subst (λ y. FirstFault (k + 1) ss (drop (s .width) row) y) same (later g refl))
+    at-field (Err e) x next h later = inl (e, cc, x)
+
+pub row-refused : (k : ℕ) (ss : List Shape) (row : List ℕ) (r : Result (List ℕ) RowFault) → AllSound ss → r ≡ rowRead k ss row → RowRefused k ss row r
+row-refused k ss row (Ok vs) ok e = tt
+row-refused k ss row (Err f) ok e = first-fault k ss row f ok (sym e)
 
 -- the answer of a writing
 pub writes : (ss : List Shape) (vs : List ℕ) (room : ℕ) → room ≡ widths ss + 1 → fits ss vs ≡ true → Ok tt ≡ writeAnswer ss vs room

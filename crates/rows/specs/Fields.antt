@@ -6,7 +6,7 @@
 use mathlib.Core.Path.{_≡_}
 use mathlib.Core.Bool.{Bool, true, false, not, _&&_, _||_}
 use mathlib.Core.List.{List, [], _∷_, _++_}
-use Prim.Native.Nat.{ℕ, _+_, _-_, _*_, _^_, _<_, _≤_}
+use Prim.Native.Nat.{ℕ, _+_, _-_, _*_, _<_, _≤_}
 use lib.Dec.{leb, eqb}
 use lib.ListN.{length, replicate}
 use Rattle.std.specs.Written.{decimal}
@@ -32,9 +32,9 @@ judged limit (Some v) = elim (leb v limit) [ true ↦ Ok v | false ↦ Err Limit
 abbrev pub fieldRead : List ℕ → ℕ → Result ℕ FieldFault
 fieldRead bytes limit = judged limit (scan false 0 bytes)
 
--- a number is read exactly where the bytes show it and it is within the limit; a refusal says that the bytes show no
--- number, or one that passes the limit
-abbrev pub FieldExact : List ℕ → ℕ → Result ℕ FieldFault → Type 0
-FieldExact bytes limit (Ok v) = (bytes ≡ shown (length bytes) v) × (v ≤ limit)
-FieldExact bytes limit (Err Form) = (v : ℕ) → v < 2 ^ 64 → bytes ≡ shown (length bytes) v → ⊥
-FieldExact bytes limit (Err Limit) = (v : ℕ) × (v < 2 ^ 64) × (bytes ≡ shown (length bytes) v) × (limit < v)
+-- a number is read exactly where the bytes are those that show it in the width, and it is within the limit; a refusal
+-- says that they show no number, or one that passes the limit
+abbrev pub FieldExact : ℕ → List ℕ → ℕ → Result ℕ FieldFault → Type 0
+FieldExact width bytes limit (Ok v) = (bytes ≡ shown width v) × (v ≤ limit)
+FieldExact width bytes limit (Err Form) = (v : ℕ) → bytes ≡ shown width v → ⊥
+FieldExact width bytes limit (Err Limit) = (v : ℕ) × (bytes ≡ shown width v) × (limit < v)

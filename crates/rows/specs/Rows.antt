@@ -5,10 +5,12 @@
 --   columnRead   the field at the front of bytes; where they run out it has no form
 --   rowRead      the numbers of a row, or the first fault: fields from the left, then the newline
 --   RowExact     what makes a reading right, in terms of `rowShown` and `Within` alone
+--   FirstFault   what makes a refusal right: it is the first fault of the row, in terms of `shown` and the limits alone
 --   Written      what a writing leaves
 use mathlib.Core.Path.{_≡_}
 use mathlib.Core.Bool.{Bool, true, false, _&&_}
 use mathlib.Core.List.{List, [], _∷_, _++_}
+use mathlib.Core.Logic.{_⊎_}
 use Prim.Native.Nat.{ℕ, _+_, _≤_}
 use lib.Dec.{leb, eqb}
 use lib.ListN.{length, take, drop}
@@ -20,7 +22,7 @@ use Rattle.rows.specs.declared.fault.Numbered.{Numbered}
 use Rattle.rows.specs.declared.fault.RowFault.{RowFault}
 use Rattle.rows.specs.declared.fault.RowFault.the-variants.{Field, Newline}
 use Rattle.rows.specs.declared.row.Misfit.{Misfit}
-use Rattle.rows.specs.Fields.{shown, fieldRead}
+use Rattle.rows.specs.Fields.{shown, fieldRead, FieldExact}
 use Rattle.rows.specs.Columns.{Shape, widths}
 
 abbrev pub fieldsShown : List Shape → List ℕ → List ℕ
@@ -65,6 +67,18 @@ rowRead k (s ∷ ss) bytes = onField k (columnRead (s .width) (s .limit) bytes) 
 abbrev pub RowExact : List Shape → List ℕ → Result (List ℕ) RowFault → Type 0
 RowExact ss row (Ok vs) = (row ≡ rowShown ss vs) × Within ss vs
 RowExact ss row (Err f) = (vs : List ℕ) → Within ss vs → row ≡ rowShown ss vs → ⊥
+
+-- field k is the first: it is refused, or it shows a number within its limit and the fault comes later; after the fields
+-- comes the newline alone
+abbrev pub FirstFault : ℕ → List Shape → List ℕ → RowFault → Type 0
+FirstFault k [] row f = (f ≡ Newline) × (row ≡ 10 ∷ [] → ⊥)
+FirstFault k (s ∷ ss) row f =
+    ((e : FieldFault) × (f ≡ Field (record { number = k; fault = e })) × FieldExact (s .width) (take (s .width) row) (s .limit) (Err e))
+    ⊎ ((v : ℕ) × FieldExact (s .width) (take (s .width) row) (s .limit) (Ok v) × FirstFault (k + 1) ss (drop (s .width) row) f)
+
+abbrev pub RowRefused : ℕ → List Shape → List ℕ → Result (List ℕ) RowFault → Type 0
+RowRefused k ss row (Ok vs) = Unit {0}
+RowRefused k ss row (Err f) = FirstFault k ss row f
 
 abbrev pub fits : List Shape → List ℕ → Bool
 fits [] [] = true

@@ -16,7 +16,7 @@ pub enum FieldFault {
 pub(crate) fn read_field(bytes: &[u8], limit: u64) -> Result<u64, FieldFault>
     requires { ⌜ length (now bytes) ≤ 19 ⌝ }
     ensures value { λ r. ⌜ r ≡ fieldRead (now (bytes .entry)) limit ⌝ }
-    ensures exact { λ r. ⌜ FieldExact (now (bytes .entry)) limit r ⌝ }
+    ensures exact { λ r. ⌜ FieldExact (length (now (bytes .entry))) (now (bytes .entry)) limit r ⌝ }
 {
     let mut value: u64 = 0;
     let mut begun = false;

@@ -4,7 +4,7 @@ ghost use mathlib.Core.Path.{_≡_};
 ghost use Prim.Native.Nat.{ℕ, _≤_};
 ghost use lib.ListN.{length, drop};
 ghost use Rattle.rows.specs.Columns.{shapes};
-ghost use Rattle.rows.specs.Rows.{columnRead, rowRead, rowShown, RowExact, fits, writeAnswer, Written};
+ghost use Rattle.rows.specs.Rows.{columnRead, rowRead, rowShown, RowExact, RowRefused, fits, writeAnswer, Written};
 use super::column::Column;
 use super::fault::Numbered;
 use super::fault::RowFault;
@@ -35,6 +35,7 @@ impl<const N: usize> Layout<N> {
     pub fn read(&self, row: &[u8]) -> Result<[u64; N], RowFault>
         ensures value { λ r. ⌜ r ≡ rowRead (now (self .entry) .first) (shapes (now (self .entry) .columns)) (now (row .entry)) ⌝ }
         ensures exact { λ r. ⌜ RowExact (shapes (now (self .entry) .columns)) (now (row .entry)) r ⌝ }
+        ensures refused { λ r. ⌜ RowRefused (now (self .entry) .first) (shapes (now (self .entry) .columns)) (now (row .entry)) r ⌝ }
     {
         let mut values = [0; N];
         let mut at = 0;

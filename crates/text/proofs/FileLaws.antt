@@ -7,12 +7,22 @@ use native.Mathlib.Omega.{arith}
 use native.Mathlib.Nat.{mul-suc, mul-zero}
 use lib.ListN.{length, take, drop, length-append, length-drop}
 use Rattle.std.specs.Joined.{joined}
+use Rattle.std.specs.declared.option.Option.{Option}
 use Rattle.std.specs.declared.option.Option.the-variants.{None, Some}
 use Rattle.std.specs.declared.result.Result.{Result}
 use Rattle.std.specs.declared.result.Result.the-variants.{Ok, Err}
-use Rattle.std.proofs.shelf.Lists.{take-at, drop-at, take-append-drop, nil-from-length}
+use Rattle.std.proofs.shelf.Lists.{take-at, drop-at, take-append-drop, take-take, drop-take, drop-drop, nil-from-length}
+use Rattle.rows.specs.declared.fault.Numbered.{Numbered}
 use Rattle.rows.specs.declared.fault.RowFault.{RowFault}
 use Rattle.text.specs.Files.{Reading, onRow, readRows}
+
+take-both : (n m : ℕ) (xs : List ℕ) → take (n + m) xs ≡ take n xs ++ take m (drop n xs)
+take-both n m xs =
+    let le : n ≤ n + m = omega arith in
+    sym (take-append-drop n (take (n + m) xs)) ∙ (ap (λ x. x ++ drop n (take (n + m) xs)) (take-take n (n + m) xs le) ∙ ap (λ x. take n xs ++ x) (drop-take n m xs))
+
+same-fault : {f g : Numbered RowFault} → _≡_ {A = Option (Numbered RowFault)} (Some f) (Some g) → f ≡ g
+same-fault p = cc
 
 -- a kind of row: the row of an item, the state after it, and which items may come in a state
 pub record Kind (S A : Type 0) (step : S → List ℕ → Result S RowFault) (width : ℕ) : Type 1 where
@@ -71,3 +81,54 @@ module _ {S A : Type 0} (step : S → List ℕ → Result S RowFault) (width : �
           → (xs : List A) × (length xs ≡ suc n) × (bytes ≡ joined (kind .show) xs) × (t ≡ putAll s xs) × FitAll s xs
       joined-up bytes u a xs l b p q f g =
           (a ∷ xs, ap suc l, b, q ∙ ap (λ x. putAll x xs) p, (f, subst (λ x. FitAll x xs) p g))
+
+  -- a reading that stopped: the rows before the faulty one are shown, and that one is refused
+  pub record Stopped (bytes : List ℕ) (k : ℕ) (s t : S) (f : Numbered RowFault) : Type 0 where
+    pub items : List A
+    pub number : f .number ≡ k + length items
+    pub shows : take (width * length items) bytes ≡ joined (kind .show) items
+    pub left : t ≡ putAll s items
+    pub fits : FitAll s items
+    pub refused : step t (take width (drop (width * length items) bytes)) ≡ Err (f .fault)
+
+  stopped-here : (bytes : List ℕ) (k : ℕ) (s t : S) (g : RowFault) (f : Numbered RowFault) → step s (take width bytes) ≡ Err g
+      → s ≡ t → record { number = k; fault = g } ≡ f → Stopped bytes k s t f
+  stopped-here bytes k s t g f e same is =
+      let z : width * 0 ≡ 0 = mul-zero width in
+      record {
+        items = [];
+        number = sym (ap (λ (x : Numbered RowFault). x .number) is) ∙ omega arith;
+        shows = ap (λ n. take n bytes) z;
+        left = sym same;
+        fits = tt;
+        refused = ap (λ n. step t (take width (drop n bytes))) z ∙ (ap (λ x. step x (take width bytes)) (sym same) ∙ (e ∙ ap (λ (x : Numbered RowFault). Err (x .fault)) is));
+      }
+
+  stopped-later : (bytes : List ℕ) (k : ℕ) (s t : S) (f : Numbered RowFault) (a : A) → take width bytes ≡ kind .show a → kind .Fits s a
+      → Stopped (drop width bytes) (k + 1) (kind .put s a) t f → Stopped bytes k s t f
+  stopped-later bytes k s t f a is fit later =
+      let m = length (later .items) in
+      let n : width * suc m ≡ width + width * m = mul-suc width m ∙ omega arith in
+      record {
+        items = a ∷ later .items;
+        number = later .number ∙ omega arith;
+        shows = ap (λ x. take x bytes) n ∙ (take-both width (width * m) bytes ∙ (ap (λ x. x ++ take (width * m) (drop width bytes)) is ∙ ap (λ x. kind .show a ++ x) (later .shows)));
+        left = later .left;
+        fits = (fit, later .fits);
+        refused = ap (λ x. step t (take width x)) (ap (λ x. drop x bytes) n ∙ sym (drop-drop (width * m) width bytes)) ∙ later .refused;
+      }
+
+  pub file-stops : (n : ℕ) (bytes : List ℕ) (k : ℕ) (s t : S) (f : Numbered RowFault)
+      → readRows step width n bytes k s ≡ record { left = t; fault = Some f } → Stopped bytes k s t f
+  file-stops zero bytes k s t f e = let x = ap (λ (r : Reading S). r .fault) e in let z : _≡_ {A = ℕ} 0 1 = cc in absurd (omega arith)
+  file-stops (suc n) bytes k s t f e = at-row (step s (take width bytes)) refl e (λ u h. file-stops n (drop width bytes) (k + 1) u t f h)
+    where
+      at-row : (r : Result S RowFault) → step s (take width bytes) ≡ r
+          → onRow k s r (λ u. readRows step width n (drop width bytes) (k + 1) u) ≡ record { left = t; fault = Some f }
+          → ((u : S) → readRows step width n (drop width bytes) (k + 1) u ≡ record { left = t; fault = Some f } → Stopped (drop width bytes) (k + 1) u t f)
+          → Stopped bytes k s t f
+      at-row (Err g) is h next =
+          stopped-here bytes k s t g f is (ap (λ (r : Reading S). r .left) h) (same-fault (ap (λ (r : Reading S). r .fault) h))
+      at-row (Ok u) is h next =
+          let o = kind .only s (take width bytes) u is in
+          stopped-later bytes k s t f (o .0) (o .1) (o .3) (subst (λ x. Stopped (drop width bytes) (k + 1) x t f) (o .2) (next u h))

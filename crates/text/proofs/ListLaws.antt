@@ -12,7 +12,7 @@ use Rattle.std.specs.declared.option.Option.the-variants.{None, Some}
 use Rattle.std.specs.declared.result.Result.{Result}
 use Rattle.std.specs.declared.result.Result.the-variants.{Ok, Err}
 use Rattle.std.proofs.shelf.Lists.{append-nil}
-use Rattle.std.proofs.shelf.Tests.{le-leb, leb-true, eq-eqb, eqb-true, and-from, and-parts, cases-bool}
+use Rattle.std.proofs.shelf.Tests.{cases-lt, le-leb, leb-true, eq-eqb, eqb-true, and-from, and-parts, cases-bool}
 use Rattle.source.specs.declared.reply.Reply.{Reply}
 use Rattle.source.specs.Replies.{LawfulFrom, Lawful, follows}
 use Rattle.source.proofs.Beginnings.{follows-so}
@@ -24,14 +24,11 @@ use Rattle.text.specs.declared.fault.FileFault.the-variants.{Row, Size}
 use Rattle.rows.specs.Columns.{Shape, shape, listRow}
 use Rattle.rows.specs.Rows.{Within, rowRead, rowShown}
 use Rattle.text.specs.Files.{Reading, rowCount, ending, readRows, answerOf, leftOf}
-use Rattle.text.specs.Lists.{numbersOf, replyShown, listShown, ListExact, replyOf, ordered, replyFrom, replyRead, lastAsked, onto, listStep, listAnswer, listRead}
-use Rattle.rows.proofs.Fitting.{Sound, AllSound}
-use Rattle.rows.proofs.RowLaws.{length-row, row-back, row-shown}
+use Rattle.text.specs.Lists.{numbersOf, replyShown, listShown, replyOf, ordered, replyFrom, replyRead, lastAsked, onto, listStep, ReplyRefused}
+use Rattle.rows.proofs.Fitting.{AllSound, sound-shape}
+use Rattle.rows.proofs.RowLaws.{length-row, row-back, row-shown, first-fault}
 use Rattle.text.proofs.ListReading.{last-push}
 use Rattle.text.proofs.FileLaws.{Kind, putAll, FitAll, file-back, file-only, length-file}
-
-sound-shape : (w l : ℕ) → 1 ≤ w → w ≤ 19 → l < 10 ^ w → Sound (shape w l)
-sound-shape w l a b c = record { some = a; narrow = b; holds = c }
 
 pub list-sound : AllSound listRow
 list-sound = (
@@ -111,6 +108,50 @@ reply-only rs row t e =
     let n = numbers-back (p .0) (s .1) in
     let w : Within listRow (numbersOf (replyOf (p .0))) = subst (Within listRow) n (s .1) in
     (replyOf (p .0), s .0 ∙ ap (rowShown listRow) n, p .2, (follows-from (lastAsked 0 rs) (replyOf (p .0)) (p .3) (p .4) w, w))
+
+-- a reply out of order
+ordered-not : (last : ℕ) (q : Reply ℕ) (f : RowFault) → ordered last q ≡ Err f → (f ≡ Order) × ((q .asked < last) ⊎ (q .ready < q .asked))
+ordered-not last q f e = (fault, where-it-breaks)
+  where
+    never : {a : Reply ℕ} {g : RowFault} → _≡_ {A = Result (Reply ℕ) RowFault} (Ok a) (Err g) → ⊥
+    never p = let z : _≡_ {A = ℕ} 0 1 = cc in omega arith
+
+    same : {g h : RowFault} → _≡_ {A = Result (Reply ℕ) RowFault} (Err g) (Err h) → g ≡ h
+    same p = cc
+
+    fault : f ≡ Order
+    fault = elim (cases-bool (leb last (q .asked) && leb (q .asked) (q .ready))) [
+      | inl t ↦ let o : ordered last q ≡ Ok q = rw (t, ordered) in absurd (never (sym o ∙ e))
+      | inr t ↦ let o : ordered last q ≡ Err Order = rw (t, ordered) in same (sym e ∙ o)
+    ]
+
+    where-it-breaks : (q .asked < last) ⊎ (q .ready < q .asked)
+    where-it-breaks = elim (cases-lt (q .asked) last) [
+      | inl falls ↦ inl falls
+      | inr rises ↦ elim (cases-lt (q .ready) (q .asked)) [
+        | inl early ↦ inr early
+        | inr waits ↦ absurd (never (sym (reply-ordered last q rises waits) ∙ e))
+      ]
+    ]
+
+-- a step that was refused
+pub reply-refused : (rs : List (Reply ℕ)) (row : List ℕ) (f : RowFault) → listStep rs row ≡ Err f → ReplyRefused (lastAsked 0 rs) row f
+reply-refused rs row f e = at-row (rowRead 1 listRow row) refl e
+  where
+    last : ℕ
+    last = lastAsked 0 rs
+
+    at-reply : (o : Result (Reply ℕ) RowFault) → onto rs o ≡ Err f → o ≡ Err f
+    at-reply (Ok r) h = let z : _≡_ {A = ℕ} 0 1 = cc in absurd (omega arith)
+    at-reply (Err g) h = let same : g ≡ f = cc in ap Err same
+
+    at-row : (x : Result (List ℕ) RowFault) → rowRead 1 listRow row ≡ x → onto rs (replyFrom last x) ≡ Err f → ReplyRefused last row f
+    at-row (Err g) is h = let same : g ≡ f = cc in inl (first-fault 1 listRow row f list-sound (is ∙ ap Err same))
+    at-row (Ok vs) is h =
+        let s = row-shown 1 listRow row vs list-sound is in
+        let n = numbers-back vs (s .1) in
+        let o = ordered-not last (replyOf vs) f (at-reply (ordered last (replyOf vs)) h) in
+        inr (replyOf vs, s .0 ∙ ap (rowShown listRow) n, subst (Within listRow) n (s .1), o .0, o .1)
 
 abbrev pub listKind : Kind (List (Reply ℕ)) (Reply ℕ) listStep 35
 listKind = record {

@@ -1,6 +1,6 @@
 -- A list and a schedule together. Nothing is assumed.
 --   pairAnswer      the first row, from 1, whose class has no step is refused
---   noStepRefusal   the refusal of that row: number 12, and the class is field 2
+--   noStepRefusal   the refusal of that row, from the table of refusals
 use mathlib.Core.Bool.{true, false}
 use mathlib.Core.List.{List, [], _∷_}
 use Prim.Native.Nat.{ℕ, _+_}
@@ -8,12 +8,8 @@ use Rattle.std.specs.declared.result.Result.{Result}
 use Rattle.std.specs.declared.result.Result.the-variants.{Ok, Err}
 use Rattle.source.specs.declared.reply.Reply.{Reply}
 use Rattle.pace.specs.Steps.{hasStep}
-use Rattle.text.specs.declared.fault.Refusal.{Refusal}
 use Rattle.text.specs.declared.pair.NoStep.{NoStep}
-use Rattle.text.specs.Refusals.{refusal}
-
-abbrev pub noStepRefusal : NoStep → Refusal
-noStepRefusal e = refusal 12 (e .row) 2
+pub use Rattle.text.specs.Refusals.{noStepRefusal}
 
 module _ {B : Type 0} (ladders : List (List ℕ)) where
   -- the first reply is row k

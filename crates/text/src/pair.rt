@@ -2,7 +2,8 @@
 ghost use mathlib.Core.Path.{_≡_};
 ghost use lib.ListN.{take};
 ghost use Rattle.pace.specs.Steps.{laddersOf};
-ghost use Rattle.text.specs.Pairs.{pairAnswer, noStepRefusal};
+ghost use Rattle.text.specs.Pairs.{pairAnswer};
+ghost use Rattle.text.specs.Refusals.{noStepRefusal};
 use super::fault::Refusal;
 use super::list::MOST_REPLIES;
 use pace::steps::Steps;

@@ -6,7 +6,7 @@ ghost use Rattle.std.specs.declared.result.Result.the-variants.{Err};
 ghost use Rattle.text.specs.declared.fault.FileFault.the-variants.{Size};
 ghost use Rattle.pace.specs.Steps.{laddersOf, noSteps};
 ghost use Rattle.text.specs.Files.{RowTaken, ending, readRows};
-ghost use Rattle.text.specs.Schedules.{scheduleStep, scheduleAnswer, scheduleRead};
+ghost use Rattle.text.specs.Schedules.{scheduleStep, scheduleAnswer, scheduleRead, ScheduleExact};
 use super::fault::FileFault;
 use super::fault::FileFromRow;
 use super::file::count_rows;
@@ -49,6 +49,7 @@ fn read_rows(bytes: &[u8], rows: usize, steps: &mut Steps) -> Result<usize, File
 pub fn read_schedule(bytes: &[u8], steps: &mut Steps) -> Result<usize, FileFault>
     ensures value { λ r. ⌜ r ≡ scheduleAnswer (now (bytes .entry)) ⌝ }
     ensures after { λ _. ⌜ laddersOf (now (steps .exit)) ≡ scheduleRead (laddersOf (now (steps .entry))) (now (bytes .entry)) ⌝ }
+    ensures exact { λ r. ⌜ ScheduleExact (now (bytes .entry)) (laddersOf (now (steps .exit))) r ⌝ }
     ensures same { λ r. ⌜ (r ≡ Err Size → now (steps .exit) ≡ now (steps .entry)) ⌝ }
 {
     let rows = count_rows(bytes.len(), SCHEDULE_ROW.bytes, MOST_STEPS)?;

@@ -11,7 +11,7 @@ use Rattle.rows.specs.Rows.{ended, rowRead}
 use Rattle.rows.proofs.Layers.{numbered-ok, numbered-err}
 use Rattle.rows.proofs.Fitting.{sound}
 use Rattle.rows.proofs.RowReading.{before-none, place-room, newline-left, no-newline, read-turn, read-fault, read-whole, read-unended}
-use Rattle.rows.proofs.RowLaws.{row-exact}
+use Rattle.rows.proofs.RowLaws.{row-exact, row-refused}
 use Rattle.rows.proofs.layout.Layout.read.Needs as need
 use Rattle.rows.proofs.layout.Layout.read.Needs.{then-row-at-ne1·by·then-row-at-ne1, then-row-at-ne1·by·else-row-at-ne1·then-row-at-ne10}
 
@@ -40,7 +40,7 @@ returns-in-Break-values g c =
     let q = numbered-err _ (c .read-column .result) (c .in-Break-values .field-0 .0) (c .in-Break-values .ensures tt) in
     let e = read-fault (t .columns) (c .args .row .now) (c .loop-i .values) (t .first) (c .loop-i .i) (c .loop-i .at) _ (c .loop-i .inv .0) (c .index-self-i .result) (q .0) (omega arith) (sym (c .read-column .ensures) ∙ q .1) in
     let r = p .1 ∙ (ap Err (p .2) ∙ (ap (λ f. Err (Field f)) (q .2) ∙ e)) in
-    record { value = r; exact = row-exact (t .first) (shapes (t .columns)) (c .args .row .now) _ (sound (t .columns)) r }
+    record { value = r; exact = row-exact (t .first) (shapes (t .columns)) (c .args .row .now) _ (sound (t .columns)) r; refused = row-refused (t .first) (shapes (t .columns)) (c .args .row .now) _ (sound (t .columns)) r }
 
 pub returns-then-row-at-ne1 : need.returns-then-row-at-ne1
 returns-then-row-at-ne1 g c =
@@ -51,7 +51,7 @@ returns-then-row-at-ne1 g c =
       | then-row-at-ne1·by·else-row-at-ne1·then-row-at-ne10 w ↦ no-newline (c .args .row .now) (c .loop-i .at) (inr (w .if-row-at-ne1 .left, w .if-row-at-ne10 .taken))
     ] in
     let r = read-unended (t .columns) (c .args .row .now) (c .loop-i .values) (t .first) (c .loop-i .i) (c .loop-i .at) _ (c .loop-i .inv .0) (omega arith) (omega arith) n in
-    record { value = r; exact = row-exact (t .first) (shapes (t .columns)) (c .args .row .now) _ (sound (t .columns)) r }
+    record { value = r; exact = row-exact (t .first) (shapes (t .columns)) (c .args .row .now) _ (sound (t .columns)) r; refused = row-refused (t .first) (shapes (t .columns)) (c .args .row .now) _ (sound (t .columns)) r }
 
 pub returns : need.returns
 returns g c =
@@ -59,4 +59,4 @@ returns g c =
     let l = c .loop-i .inv .2 in
     let n = newline-left (c .args .row .now) (c .loop-i .at) (c .if-row-at-ne1 .left) (c .if-row-at-ne10 .left) in
     let r = read-whole (t .columns) (c .args .row .now) (c .loop-i .values) (t .first) (c .loop-i .i) (c .loop-i .at) _ (c .loop-i .inv .0) (omega arith) (omega arith) n in
-    record { value = r; exact = row-exact (t .first) (shapes (t .columns)) (c .args .row .now) _ (sound (t .columns)) r }
+    record { value = r; exact = row-exact (t .first) (shapes (t .columns)) (c .args .row .now) _ (sound (t .columns)) r; refused = row-refused (t .first) (shapes (t .columns)) (c .args .row .now) _ (sound (t .columns)) r }
