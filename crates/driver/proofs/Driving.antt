@@ -15,8 +15,9 @@ use Rattle.promise.specs.declared.release.Release.{Release}
 use Rattle.promise.specs.Rules.{Rules}
 use Rattle.promise.specs.Views.{View, all, release, replyOf, answer, next, Timely}
 use Rattle.promise.proofs.Nexts.{Moves, moves, all-grows}
-use Rattle.page.specs.declared.tally.Tally.{Tally}
-use Rattle.page.specs.Pages.{begun, taken, orderly, roomy, verdict, rowAnswer, rowBytes, footOf, footBytes, lined}
+use Rattle.tally.specs.declared.account.Tally.{Tally}
+use Rattle.tally.specs.Tallies.{begun, taken, orderly, roomy, verdict, rowAnswer, footOf}
+use Rattle.page.specs.Pages.{rowBytes, footBytes, lined}
 use Rattle.driver.specs.declared.replay.Stop.{Stop}
 use Rattle.driver.specs.Replays.{rowOf, Releases, tallied, filled, Stops, Fills, Replays}
 

@@ -25,7 +25,7 @@ use Rattle.gate.specs.Rows.{releasesIn}
 use Rattle.promise.specs.Rules.{Rules}
 use Rattle.promise.specs.Views.{View, opened}
 use Rattle.gate.specs.Gates.{standingOf}
-use Rattle.page.specs.declared.line.PageFault.{PageFault}
+use Rattle.tally.specs.declared.line.PageFault.{PageFault}
 use Rattle.driver.specs.declared.replay.Replayed.{Replayed}
 use Rattle.std.specs.declared.result.Result.the-variants.{Ok, Err}
 use Rattle.driver.specs.Replays.{Replays, ReplayLeaves}

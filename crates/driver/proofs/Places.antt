@@ -33,8 +33,8 @@ use Rattle.text.specs.Pairs.{pairFrom, pairAnswer}
 use Rattle.pace.specs.Refusals.{stepFaultNumber}
 use Rattle.rows.specs.Faults.{fieldFaultNumber}
 use Rattle.text.specs.Refusals.{rowRefusal, refusalOf}
-use Rattle.page.specs.declared.line.PageFault.{PageFault}
-use Rattle.page.specs.declared.line.PageFault.the-variants.{Class, Order as Late, Room}
+use Rattle.tally.specs.declared.line.PageFault.{PageFault}
+use Rattle.tally.specs.declared.line.PageFault.the-variants.{Class, Order as Late, Room}
 use Rattle.driver.specs.declared.job.Place.{Place}
 use Rattle.driver.specs.declared.job.JobFault.{JobFault}
 use Rattle.driver.specs.declared.job.JobFault.the-variants as fault

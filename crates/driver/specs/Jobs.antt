@@ -26,9 +26,9 @@ use Rattle.text.specs.Refusals.{refusalOf}
 use Rattle.text.specs.Lists.{listAnswer, listRead}
 use Rattle.text.specs.Schedules.{scheduleAnswer, scheduleRead}
 use Rattle.text.specs.Pairs.{pairAnswer, noStepRefusal}
-use Rattle.page.specs.declared.line.PageFault.{PageFault}
-use Rattle.page.specs.declared.line.PageFault.the-variants.{Room}
-use Rattle.page.specs.Refusals.{pageNumber}
+use Rattle.tally.specs.declared.line.PageFault.{PageFault}
+use Rattle.tally.specs.declared.line.PageFault.the-variants.{Room}
+use Rattle.tally.specs.Refusals.{pageNumber}
 use Rattle.driver.specs.declared.replay.Replayed.{Replayed}
 use Rattle.driver.specs.declared.job.Place.{Place}
 use Rattle.driver.specs.declared.job.JobFault.{JobFault}

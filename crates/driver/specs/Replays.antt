@@ -16,11 +16,12 @@ use Rattle.source.specs.declared.reply.End.the-variants.{Dry, Horizon}
 use Rattle.promise.specs.declared.release.Release.{Release}
 use Rattle.promise.specs.Rules.{Rules}
 use Rattle.promise.specs.Views.{View, release, next}
-use Rattle.page.specs.declared.line.PageRow.{PageRow}
-use Rattle.page.specs.declared.line.PageFault.{PageFault}
-use Rattle.page.specs.declared.line.PageFault.the-variants.{Room}
-use Rattle.page.specs.declared.tally.Tally.{Tally}
-use Rattle.page.specs.Pages.{begun, taken, roomy, rowBytes, footOf, footBytes, lined}
+use Rattle.tally.specs.declared.line.PageRow.{PageRow}
+use Rattle.tally.specs.declared.line.PageFault.{PageFault}
+use Rattle.tally.specs.declared.line.PageFault.the-variants.{Room}
+use Rattle.tally.specs.declared.account.Tally.{Tally}
+use Rattle.tally.specs.Tallies.{begun, taken, roomy, footOf}
+use Rattle.page.specs.Pages.{rowBytes, footBytes, lined}
 use Rattle.driver.specs.declared.replay.Stop.{Stop}
 use Rattle.driver.specs.declared.replay.Stop.the-variants as stop
 use Rattle.driver.specs.declared.replay.Replayed.{Replayed}

@@ -10,11 +10,11 @@ use gate::opening::Opening;
 use pace::Pace;
 use pace::Penalty;
 use page::begin;
-use page::line::PageFault;
-use page::line::PageRow;
 use page::sheet::OpenPage;
 use source::Source;
 use source::reply::End;
+use tally::line::PageFault;
+use tally::line::PageRow;
 
 // Why a page took no further row: the gate ended, dry or at the horizon, or the page is full.
 #[derive(Clone, Copy, PartialEq, Eq, Debug)]
@@ -48,12 +48,12 @@ fn fill<S: Source, P: Pace, R: Penalty>(
     page: &mut OpenPage,
     buf: &mut [u8],
 ) -> Stop
-    requires room { ⌜ 36 * (now page .tally .rows) + 36 ≤ length (now buf) ⌝ }
-    requires clock { ⌜ now page .tally .clock ≡ viewOf S·Source (now gate) .standing .clock ⌝ }
-    requires misses { ⌜ now page .tally .misses ≤ all (viewOf S·Source (now gate) .standing) ⌝ }
-    ensures fills { λ r. ⌜ Fills (rulesIn P·Pace R·Penalty (now (gate .entry))) (viewOf S·Source (now (gate .entry))) (viewOf S·Source (now (gate .exit))) (now (page .entry) .tally) (now (page .exit) .tally) (now (buf .entry)) (now (buf .exit)) r ⌝ }
+    requires room { ⌜ 36 * (now page .account .tally .rows) + 36 ≤ length (now buf) ⌝ }
+    requires clock { ⌜ now page .account .tally .clock ≡ viewOf S·Source (now gate) .standing .clock ⌝ }
+    requires misses { ⌜ now page .account .tally .misses ≤ all (viewOf S·Source (now gate) .standing) ⌝ }
+    ensures fills { λ r. ⌜ Fills (rulesIn P·Pace R·Penalty (now (gate .entry))) (viewOf S·Source (now (gate .entry))) (viewOf S·Source (now (gate .exit))) (now (page .entry) .account .tally) (now (page .exit) .account .tally) (now (buf .entry)) (now (buf .exit)) r ⌝ }
     ensures same { λ _. ⌜ rulesIn P·Pace R·Penalty (now (gate .exit)) ≡ rulesIn P·Pace R·Penalty (now (gate .entry)) ⌝ }
-    ensures room { λ _. ⌜ 36 * (now (page .exit) .tally .rows) + 36 ≤ length (now (buf .exit)) ⌝ }
+    ensures room { λ _. ⌜ 36 * (now (page .exit) .account .tally .rows) + 36 ≤ length (now (buf .exit)) ⌝ }
 {
     while page.has_room(buf) {
         let release = match gate.release() {

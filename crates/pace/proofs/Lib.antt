@@ -3,3 +3,4 @@ pub mod Ladders
 pub mod Waits
 pub mod Additions
 pub mod Quanta
+pub mod Answering

@@ -3,24 +3,24 @@ ghost use mathlib.Core.Path.{_≡_};
 ghost use Prim.Native.Nat.{_+_, _*_, _<_, _≤_};
 ghost use lib.ListN.{length};
 ghost use Rattle.std.specs.Results.{Cases};
-ghost use Rattle.page.specs.declared.line.PageFault.the-variants.{Room};
-ghost use Rattle.page.specs.Pages.{begun, taken, roomy, rowAnswer, rowBytes, footOf, footBytes, RowLeaves, CloseLeaves};
+ghost use Rattle.tally.specs.declared.line.PageFault.the-variants.{Room};
+ghost use mathlib.Core.List.{List};
+ghost use Rattle.tally.specs.declared.line.PageRow.{PageRow};
+ghost use Rattle.tally.specs.Tallies.{begun, tallied, roomy, rowAnswer, footOf, Bounds};
+ghost use Rattle.page.specs.Pages.{rowBytes, footBytes, RowLeaves, CloseLeaves};
 use gate::opening::Opening;
-use line::Foot;
-use line::LINE;
-use line::PageFault;
-use line::PageRow;
 use pace::Pace;
 use rows::layout::FOOT;
 use rows::layout::PAGE_ROW;
 use sheet::ClosedPage;
 use sheet::OpenPage;
-use tally::Tally;
+use tally::account::Account;
+use tally::line::Foot;
+use tally::line::LINE;
+use tally::line::PageFault;
+use tally::line::PageRow;
 
-pub mod leak;
-pub mod line;
 pub mod sheet;
-pub mod tally;
 
 // A page that could not be closed, and why.
 pub struct RefusedPage {
@@ -30,59 +30,56 @@ pub struct RefusedPage {
 
 // Begins a page in a buffer, which needs room for a foot at least.
 pub fn begin(buf: &[u8], opening: Opening) -> Result<OpenPage, PageFault>
-    ensures { λ r. ⌜ Cases r (λ p. (36 ≤ length (now (buf .entry))) × (p .tally ≡ begun (opening .tick))) (λ f. (length (now (buf .entry)) < 36) × (f ≡ Room)) ⌝ }
+    ensures { λ r. ⌜ Cases r (λ p. (36 ≤ length (now (buf .entry))) × (p .account .tally ≡ begun (opening .tick))) (λ f. (length (now (buf .entry)) < 36) × (f ≡ Room)) ⌝ }
 {
     if buf.len() < LINE {
         return Err(PageFault::Room);
     }
-    let tick = opening.tick();
     Ok(OpenPage {
-        tally: Tally {
-            opening: tick,
-            rows: 0,
-            clock: tick,
-            misses: 0,
-            occurs: [false; 8],
-        },
+        account: Account::new(opening),
     })
 }
 
 impl OpenPage {
     // Whether a buffer has room for one row more and a foot.
     pub fn has_room(&self, buf: &[u8]) -> bool
-        ensures { λ r. ⌜ r ≡ roomy (now (self .entry) .tally) (length (now (buf .entry))) ⌝ }
+        ensures { λ r. ⌜ r ≡ roomy (now (self .entry) .account .tally) (length (now (buf .entry))) ⌝ }
     {
-        self.tally.has_room(buf.len())
+        self.account.has_room(buf.len())
     }
 
     // Writes one row more into the part of the buffer that starts at 36 times the rows.
-    // Refused, it leaves the page and the buffer as they were.
+    // Refused, it leaves the page and the buffer as they were. Room for the foot stays.
     pub fn row(&mut self, buf: &mut [u8], row: PageRow) -> Result<(), PageFault>
-        ensures value { λ r. ⌜ r ≡ rowAnswer (now (self .entry) .tally) row (length (now (buf .entry))) ⌝ }
-        ensures after { λ r. ⌜ RowLeaves row (now (self .entry) .tally) (now (self .exit) .tally) (now (buf .entry)) (now (buf .exit)) r ⌝ }
+        ensures value { λ r. ⌜ r ≡ rowAnswer (now (self .entry) .account .tally) row (length (now (buf .entry))) ⌝ }
+        ensures after { λ r. ⌜ RowLeaves row (now (self .entry) .account .tally) (now (self .exit) .account .tally) (now (buf .entry)) (now (buf .exit)) r ⌝ }
+        ensures room { λ _. ⌜ (36 * now (self .entry) .account .tally .rows + 36 ≤ length (now (buf .entry)) → 36 * now (self .exit) .account .tally .rows + 36 ≤ length (now (buf .exit))) ⌝ }
     {
-        let tally = self.tally;
-        tally.judge(row, buf.len())?;
-        let at = LINE * tally.rows as usize;
-        write_row(&mut buf[at..at + LINE], tally.rows + 1, row);
-        self.tally = tally.with(row);
+        let account = self.account.with(row, buf.len())?;
+        let rows = self.account.tally.rows;
+        let at = LINE * rows as usize;
+        write_row(&mut buf[at..at + LINE], rows + 1, row);
+        self.account = account;
         Ok(())
     }
 
     // Writes the foot, with the quanta of a pace, and closes the page. Refused, it hands the page back.
     pub fn close<P: Pace>(self, buf: &mut [u8], quanta: &P) -> Result<ClosedPage, RefusedPage>
-        ensures { λ r. ⌜ CloseLeaves (P·Pace .quanta (now (quanta .entry))) self (now (buf .entry)) (now (buf .exit)) r ⌝ }
+        ensures after { λ r. ⌜ CloseLeaves (P·Pace .quanta (now (quanta .entry))) self (now (buf .entry)) (now (buf .exit)) r ⌝ }
+        ensures bound { λ _. ⌜ ((rs : List PageRow) → self .account .tally ≡ tallied (self .account .tally .opening) rs → Bounds (P·Pace .quanta (now (quanta .entry))) (self .account .tally .opening) rs (self .account .tally .clock) (footOf (P·Pace .quanta (now (quanta .entry))) (self .account .tally) .bits)) ⌝ }
     {
-        let at = LINE * self.tally.rows as usize;
+        let at = LINE * self.account.tally.rows as usize;
         if buf.len() < at + LINE {
             return Err(RefusedPage {
                 fault: PageFault::Room,
                 page: self,
             });
         }
-        let OpenPage { tally } = self;
-        write_foot(&mut buf[at..at + LINE], tally.foot(quanta));
-        Ok(ClosedPage { rows: tally.rows })
+        let OpenPage { account } = self;
+        write_foot(&mut buf[at..at + LINE], account.foot(quanta));
+        Ok(ClosedPage {
+            rows: account.tally.rows,
+        })
     }
 }
 

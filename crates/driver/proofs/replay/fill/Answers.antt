@@ -9,7 +9,7 @@ use Rattle.gate.specs.declared.row.Row.{Row}
 use Rattle.promise.specs.Rules.{Rules}
 use Rattle.promise.specs.Views.{all, release, answer, next, Timely}
 use Rattle.gate.specs.Gates.{viewOf, rulesIn}
-use Rattle.page.specs.Pages.{roomy}
+use Rattle.tally.specs.Tallies.{roomy}
 use Rattle.gate.proofs.Rows.{all-few}
 use Rattle.driver.proofs.Driving.{Driven, accepted, driven-more, released-head}
 use Rattle.driver.proofs.replay.fill.Given as given
@@ -43,11 +43,11 @@ loop-gate-again g c =
     let i = c .loop-gate .inv in
     let x = c .in-Ok .release in
     let e = c .in-Ok .ensures tt in
-    let k = turn g m (c .loop-gate .gate) (c .release .last .self) x (i .0) (e .value) (e .after) (e .timely) in
+    let k = turn g m (c .loop-gate .gate) (c .release .last .self) x (i .0) (e .value) (e .call .1) (e .timely) in
     let r = c .in-Ok-row .ensures tt .after in (
       e .same ∙ i .0,
-      driven-more m _ _ _ _ (c .loop-gate .page .tally) _ (c .loop-gate .buf) x (i .1) (k .out) (k .is) (k .inside)
-          (c .row .last .self .tally) (c .row .last .buf) (r .0) (r .1) (c .row .kept .buf) (sym (c .loop-gate-test .ensures tt)),
+      driven-more m _ _ _ _ (c .loop-gate .page .account .tally) _ (c .loop-gate .buf) x (i .1) (k .out) (k .is) (k .inside)
+          (c .row .last .self .account .tally) (c .row .last .buf) (r .0) (r .1) (c .row .kept .buf) (sym (c .loop-gate-test .ensures tt)),
     )
 
 pub unreachable-requires : need.unreachable-requires
@@ -56,24 +56,24 @@ unreachable-requires g c κs =
     let i = c .loop-gate .inv in
     let x = c .in-Ok .release in
     let e = c .in-Ok .ensures tt in
-    let k = turn g m (c .loop-gate .gate) (c .release .last .self) x (i .0) (e .value) (e .after) (e .timely) in
+    let k = turn g m (c .loop-gate .gate) (c .release .last .self) x (i .0) (e .value) (e .call .1) (e .timely) in
     c .in-rest .not-Ok tt
     (c .row .ensures .value
-    ∙ accepted m _ _ _ _ (c .loop-gate .page .tally) _ (c .loop-gate .buf) x (i .1) (k .out) (k .is) (k .inside) (e .timely) (k .few) (sym (c .loop-gate-test .ensures tt)))
+    ∙ accepted m _ _ _ _ (c .loop-gate .page .account .tally) _ (c .loop-gate .buf) x (i .1) (k .out) (k .is) (k .inside) (e .timely) (k .few) (sym (c .loop-gate-test .ensures tt)))
 
 pub returns-in-Ok-head : need.returns-in-Ok-head
 returns-in-Ok-head g c =
     let m = rulesIn (g .P·Pace) (g .R·Penalty) (c .args .gate .now) in
     let i = c .loop-gate .inv in
     let v = viewOf (g .S·Source) (c .loop-gate .gate) in
-    let h = released-head m v (c .in-Ok-head .field-0) (subst (λ r. Ok (c .in-Ok-head .field-0) ≡ answer r v) (i .0) (c .in-Ok-head .ensures tt)) in
+    let h = released-head m v (c .in-Ok-head .field-0) (subst (λ r. Ok (c .in-Ok-head .field-0) ≡ answer r v) (i .0) (c .in-Ok-head .ensures tt .call .0)) in
     record {
       fills = record {
         row-list = i .1 .row-list;
         releases = i .1 .releases;
         tally = i .1 .tally;
         bytes = i .1 .bytes;
-        stops = (h, ap (λ n. roomy (c .loop-gate .page .tally) n) (sym (c .loop-gate .kept .buf)) ∙ sym (c .loop-gate-test .ensures tt));
+        stops = (h, ap (λ n. roomy (c .loop-gate .page .account .tally) n) (sym (c .loop-gate .kept .buf)) ∙ sym (c .loop-gate-test .ensures tt));
       };
       same = i .0;
       room = i .1 .room;

@@ -8,7 +8,7 @@ abbrev pub Inv-loop-gate : given.InvT-loop-gate
 Inv-loop-gate g l =
     (rulesIn (g .P·Pace) (g .R·Penalty) (l .gate) ≡ rulesIn (g .P·Pace) (g .R·Penalty) (l .entry .gate))
     × Driven (rulesIn (g .P·Pace) (g .R·Penalty) (l .entry .gate)) (viewOf (g .S·Source) (l .entry .gate)) (viewOf (g .S·Source) (l .gate))
-    (l .entry .page .tally) (l .page .tally) (l .entry .buf) (l .buf)
+    (l .entry .page .account .tally) (l .page .account .tally) (l .entry .buf) (l .buf)
 
 abbrev pub μ-loop-gate : given.MeasureT-loop-gate
-μ-loop-gate g l = 50000 - l .page .tally .rows
+μ-loop-gate g l = 50000 - l .page .account .tally .rows

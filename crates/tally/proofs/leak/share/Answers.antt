@@ -3,8 +3,8 @@ use Prim.Native.Nat.{ℕ}
 use native.Mathlib.Omega.{arith}
 use Rattle.promise.specs.Leaks.{mostOf, share}
 use Rattle.promise.proofs.Mosts.{most-is}
-use Rattle.page.proofs.Answers.{known-class}
-use Rattle.page.proofs.leak.share.Needs as need
+use Rattle.pace.proofs.Answering.{known-class}
+use Rattle.tally.proofs.leak.share.Needs as need
 
 pub most-misses-requires : need.most-misses-requires
 most-misses-requires g c κs =

@@ -1,7 +1,7 @@
 -- The numbers that a page's refusals are printed as. Nothing is assumed.
 use Prim.Native.Nat.{ℕ}
-use Rattle.page.specs.declared.line.PageFault.{PageFault}
-use Rattle.page.specs.declared.line.PageFault.the-variants.{Class, Order, Room}
+use Rattle.tally.specs.declared.line.PageFault.{PageFault}
+use Rattle.tally.specs.declared.line.PageFault.the-variants.{Class, Order, Room}
 
 abbrev pub pageNumber : PageFault → ℕ
 pageNumber Class = 8

@@ -1,6 +1,6 @@
 use Prim.Native.Nat.{_-_}
-use Rattle.page.proofs.Searches.{Lacking}
-use Rattle.page.proofs.leak.row_bits.Given as given
+use Rattle.tally.proofs.Searches.{Lacking}
+use Rattle.tally.proofs.leak.row_bits.Given as given
 
 abbrev pub Inv-loop-power : given.InvT-loop-power
 Inv-loop-power l = Lacking (l .rows) (l .b) (l .power)

@@ -1,6 +1,6 @@
 use native.Mathlib.Omega.{arith}
-use Rattle.page.proofs.Searches.{power-few, count-few, product-fits, fitting-more, fitting-most}
-use Rattle.page.proofs.leak.most_misses.Needs as need
+use Rattle.tally.proofs.Searches.{power-few, count-few, product-fits, fitting-more, fitting-most}
+use Rattle.tally.proofs.leak.most_misses.Needs as need
 
 pub mul-power : need.mul-power
 mul-power c = omega (arith, power-few _ _ _ _ (c .pre .some) (c .pre .within) (c .loop-power .inv))

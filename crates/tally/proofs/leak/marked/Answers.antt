@@ -5,9 +5,9 @@ use Prim.Native.Nat.{_<_, _≤_}
 use lib.ListN.{length}
 use lib.Seq.{take-all}
 use Rattle.std.proofs.shelf.Sums.{countBy-more-yes, countBy-more-no}
-use Rattle.page.specs.Bits.{count}
-use Rattle.page.proofs.leak.marked.Needs as need
-use Rattle.page.proofs.leak.marked.Needs.{then-mark, else-mark}
+use Rattle.tally.specs.Bits.{count}
+use Rattle.tally.proofs.leak.marked.Needs as need
+use Rattle.tally.proofs.leak.marked.Needs.{then-mark, else-mark}
 
 pub loop-mark-again : need.loop-mark-again
 loop-mark-again c =

@@ -1,6 +1,6 @@
 use native.Mathlib.Omega.{arith}
-use Rattle.page.proofs.Searches.{lacking-more, lacking-enough, bits-few, enough-is}
-use Rattle.page.proofs.leak.row_bits.Needs as need
+use Rattle.tally.proofs.Searches.{lacking-more, lacking-enough, bits-few, enough-is}
+use Rattle.tally.proofs.leak.row_bits.Needs as need
 
 pub add-b : need.add-b
 add-b c = omega (arith, bits-few _ _ _ (c .loop-power .inv) (c .pre))

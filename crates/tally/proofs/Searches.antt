@@ -11,7 +11,7 @@ use mathlib.Core.Bool.{Bool}
 use Rattle.promise.specs.Leaks.{Most, share, over}
 use Rattle.promise.proofs.Mosts.{most-last}
 use Rattle.promise.proofs.Settling.{few}
-use Rattle.page.specs.Bits.{Enough, bitsFrom, rowBits}
+use Rattle.tally.specs.Bits.{Enough, bitsFrom, rowBits}
 
 pub power-more : (n : ℕ) → 2 ^ (n + 1) ≡ 2 ^ n + 2 ^ n
 power-more n = let e : n + 1 ≡ suc n = omega arith in ap (λ k. 2 ^ k) e ∙ two-pow-succ n

@@ -1,8 +1,8 @@
 use native.Mathlib.Omega.{arith}
 use Rattle.promise.specs.Leaks.{mostOf}
-use Rattle.page.specs.Bits.{occursIn}
-use Rattle.page.proofs.Searches.{over-more}
-use Rattle.page.proofs.leak.exponent.Needs as need
+use Rattle.tally.specs.Bits.{occursIn}
+use Rattle.tally.proofs.Searches.{over-more}
+use Rattle.tally.proofs.leak.exponent.Needs as need
 
 pub loop-class-again : need.loop-class-again
 loop-class-again g c =

@@ -1,6 +1,6 @@
 use Prim.Native.Nat.{_-_}
-use Rattle.page.proofs.Searches.{Fitting}
-use Rattle.page.proofs.leak.most_misses.Given as given
+use Rattle.tally.proofs.Searches.{Fitting}
+use Rattle.tally.proofs.leak.most_misses.Given as given
 
 abbrev pub Inv-loop-power : given.InvT-loop-power
 Inv-loop-power l = Fitting (l .quantum) (l .span) (l .n) (l .power)

@@ -1,6 +1,6 @@
 // The rows of a page: one for each release, and the foot.
 ghost use mathlib.Core.Path.{_≡_};
-ghost use Rattle.page.specs.Refusals.{pageNumber};
+ghost use Rattle.tally.specs.Refusals.{pageNumber};
 
 // A page holds at most this many rows; its foot is extra.
 pub const MOST_ROWS: u32 = 50_000;

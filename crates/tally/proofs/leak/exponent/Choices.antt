@@ -1,8 +1,8 @@
 use mathlib.Core.Path.{_≡_}
 use Prim.Native.Nat.{_+_, _*_, _≤_}
 use Rattle.promise.specs.Leaks.{over, mostOf}
-use Rattle.page.specs.Bits.{occursIn}
-use Rattle.page.proofs.leak.exponent.Given as given
+use Rattle.tally.specs.Bits.{occursIn}
+use Rattle.tally.proofs.leak.exponent.Given as given
 
 abbrev pub Inv-loop-class : given.InvT-loop-class
 Inv-loop-class g l =

@@ -3,7 +3,7 @@ ghost use mathlib.Core.Path.{_≡_};
 ghost use Prim.Native.Nat.{ℕ, _+_, _*_, _<_, _≤_};
 ghost use lib.ListN.{length};
 ghost use Rattle.promise.specs.Leaks.{Most, share, mostOf, exponent};
-ghost use Rattle.page.specs.Bits.{rowBits, occursIn, count};
+ghost use Rattle.tally.specs.Bits.{rowBits, occursIn, count};
 use pace::Pace;
 
 // The most misses that a class with this quantum can have in so many ticks: the largest n with

@@ -1,0 +1,4 @@
+pub mod Searches
+pub mod Bounding
+pub mod Feet
+pub mod Judging
