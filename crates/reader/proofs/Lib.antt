@@ -1,0 +1,9 @@
+pub mod FootReading
+pub mod Turns
+pub mod PageReading
+pub mod Accounting
+pub mod PageLaws
+pub mod FootLaws
+pub mod WholePages
+pub mod PageAnswers
+pub mod PageRuns
