@@ -1,4 +1,4 @@
-// Worked examples: every layer run on cases whose answers were worked out by hand from the rules.
+// Worked examples: sources, paces and whole jobs run on cases whose answers were worked out by hand from the rules.
 #[cfg(test)]
 mod benches;
 #[cfg(test)]
@@ -7,7 +7,5 @@ mod buckets;
 mod jobs;
 #[cfg(test)]
 mod paces;
-#[cfg(test)]
-mod texts;
 #[cfg(test)]
 mod traces;
