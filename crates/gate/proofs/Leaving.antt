@@ -15,7 +15,8 @@ use Rattle.promise.specs.declared.release.Settled.{Settled}
 use Rattle.promise.specs.Rules.{Rules, Laws}
 use Rattle.promise.specs.Views.{View, own, all, base, charged, settled, moved, releaseBy, releaseFrom, release, nextBy, nextFrom, Timely}
 use Rattle.promise.proofs.Sums.{part-of-sum}
-use Rattle.promise.proofs.Settling.{Risen, risen, few, settle-settles}
+use Rattle.promise.proofs.Settling.{Risen, risen, few}
+use Rattle.promise.proofs.Standings.{settled-settles}
 use Rattle.gate.specs.declared.ledger.Ledger.{Ledger}
 use Rattle.gate.specs.Rows.{noRow, missesAt, missesIn, releasesIn}
 use Rattle.gate.specs.Gates.{standingOf}
@@ -37,12 +38,11 @@ module _ {B : Type 0} where
 
   leaves-settled : (m : Rules) → Laws m → (l : Ledger) (r : Reply B) (s : Settled) → r .«class» ≤ 7 → Some s ≡ settled m (standingOf l) r
       → Leaves l (record { reply = moved r (s .tick); misses = s .misses })
-  unfolding settled
   leaves-settled m laws l r s hc e =
       let c : ℕ = r .«class» in
       let part = part-of-sum (missesIn (l .rows)) c in
       let count = part-of-sum (releasesIn (l .rows)) c in
-      let st = settle-settles 30 m c (r .ready) (base (standingOf l) (r .asked)) (own (standingOf l) c) (all (standingOf l)) s e in
+      let st = settled-settles m (standingOf l) r s e in
       let up₀ = risen m laws c hc (r .ready) (base (standingOf l) (r .asked)) (own (standingOf l) c) (all (standingOf l)) s part st in
       let up : Risen (base (standingOf l) (r .asked)) (missesAt (l .rows) c) s
       = subst (λ n. Risen (base (standingOf l) (r .asked)) n s) (sym (misses-at (l .rows) c)) up₀ in

@@ -6,39 +6,21 @@ use Prim.Native.Nat.{ℕ, zero, suc, _+_, _-_, _^_, _≤_, _<_, max}
 use native.Mathlib.Omega.{arith}
 use Rattle.std.specs.declared.option.Option.{Option}
 use Rattle.std.specs.declared.option.Option.the-variants.{None, Some}
-use Rattle.std.specs.declared.result.Result.the-variants.{Ok, Err}
 use Rattle.source.specs.declared.reply.Reply.{Reply}
 use Rattle.source.specs.declared.reply.End.{End}
-use Rattle.source.specs.Replies.{horizon, Follows, LawfulFrom, first, rest}
+use Rattle.source.specs.Replies.{Follows, LawfulFrom}
 use Rattle.promise.specs.declared.release.Settled.{Settled}
 use Rattle.promise.specs.Rules.{Rules, Laws}
-use Rattle.promise.specs.Views.{Standing, View, own, all, base, charged, settled, moved, released, releaseFrom, nextFrom, SettlesAt, PassesAt}
+use Rattle.promise.specs.Views.{Standing, View, own, all, base, charged, settled, moved, released}
 use Rattle.promise.proofs.Sums.{part-of-sum}
-use Rattle.promise.proofs.Settling.{risen, settle-settles}
+use Rattle.promise.proofs.Settling.{risen}
+use Rattle.promise.proofs.Standings.{settled-settles}
 
 pub cases-settled : (o : Option Settled) → ((s : Settled) × (o ≡ Some s)) ⊎ (o ≡ None)
 cases-settled (Some s) = inl (s, refl)
 cases-settled None = inr refl
 
 module _ {B : Type 0} where
-  pub release-is : (m : Rules) (v : View B) (rs : List (Reply B)) (r : Reply B) (s : Settled) → Ok r ≡ first rs (v .mark)
-      → Some s ≡ settled m (v .standing) r → Ok (record { reply = moved r (s .tick); misses = s .misses }) ≡ releaseFrom m v rs
-  release-is m v [] r s h e = absurd (let z : _≡_ {A = ℕ} 0 1 = cc in omega arith)
-  release-is m v (x ∷ rs) r s h e =
-      let same : x ≡ r = cc in
-      let at : settled m (v .standing) x ≡ Some s = ap (settled m (v .standing)) same ∙ sym e in
-      rw (at, releaseFrom) (ap (λ y. Ok (record { reply = moved y (s .tick); misses = s .misses })) (sym same))
-
-  pub next-is : (m : Rules) (v : View B) (rs : List (Reply B)) (r : Reply B) (s : Settled) → Ok r ≡ first rs (v .mark)
-      → Some s ≡ settled m (v .standing) r
-      → _≡_ {A = View B} (record { coming = rest rs; mark = v .mark; standing = charged (v .standing) (r .«class») s; taken = suc (v .taken) }) (nextFrom m v rs)
-  next-is m v [] r s h e = absurd (let z : _≡_ {A = ℕ} 0 1 = cc in omega arith)
-  next-is m v (x ∷ rs) r s h e =
-      let same : x ≡ r = cc in
-      let at : settled m (v .standing) x ≡ Some s = ap (settled m (v .standing)) same ∙ sym e in
-      rw (at, nextFrom)
-      (ap (λ (y : Reply B). record { coming = rs; mark = v .mark; standing = charged (v .standing) (y .«class») s; taken = suc (v .taken) }) (sym same))
-
   pub view-is : (coming coming′ : List (Reply B)) (mark mark′ : End) (opening clock : ℕ) (ms ms′ : List ℕ) (n n′ : ℕ)
       → coming ≡ coming′ → mark ≡ mark′ → ms ≡ ms′ → n ≡ n′
       → _≡_ {A = View B} (record { coming = coming; mark = mark; standing = record { opening = opening; clock = clock; misses = ms }; taken = n })
@@ -47,11 +29,9 @@ module _ {B : Type 0} where
 
   pub settled-follows : (m : Rules) → Laws m → (st : Standing) (last : ℕ) (r : Reply B) (s : Settled) → Follows last r → Some s ≡ settled m st r
       → Follows last (moved r (s .tick))
-  unfolding settled
   settled-follows m laws st last r s f e =
       let c : ℕ = r .«class» in
-      let rules = settle-settles 30 m c (r .ready) (base st (r .asked)) (own st c) (all st) s e in
-      let up = risen m laws c (f .known) (r .ready) (base st (r .asked)) (own st c) (all st) s (part-of-sum (st .misses) c) rules in
+      let up = risen m laws c (f .known) (r .ready) (base st (r .asked)) (own st c) (all st) s (part-of-sum (st .misses) c) (settled-settles m st r s e) in
       record { rises = f .rises; waits = omega (arith, up .rises); within = up .within; known = f .known }
 
   -- the replies that a gate releases are a lawful list where those below are

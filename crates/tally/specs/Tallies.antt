@@ -1,7 +1,6 @@
 -- The tally of a page: which rows it takes, and the foot that they give. Nothing is assumed.
 --   begun       the tally of a page without rows; `taken`, with one row more; `tallied`, with all rows of a list
 --   rowAnswer   whether a page takes a row: its class, then its order and range, then the room
---   Takes       each row of a list is taken in its turn
 --   footOf      the foot
 --   Bounds      the release lists that could have been seen over some rows number at most 2 to some bits
 use mathlib.Core.Path.{_≡_}
