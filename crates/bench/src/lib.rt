@@ -1,4 +1,6 @@
 // A bench: replies that servers work out from jobs in the host's buffer.
+#![tactic(auto)]
+
 ghost use Rattle.std.specs.Prelude.{◌≡◌, ◌<◌, [], take, drop, replicate, IfOk, slice_set};
 ghost use Rattle.bench.specs.Benches.{free_of, earliest, job_follows, shift_answer, shifts, shifts_mark, replies, first_shift, NextOf, Plan};
 ghost use Rattle.source.specs.Beginnings.{lawful_alone};

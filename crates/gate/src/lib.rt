@@ -1,4 +1,6 @@
 // A gate: holds each reply of a source and lets it go at a predicted tick.
+#![tactic(auto)]
+
 ghost use Rattle.std.specs.Prelude.{◌≡◌, ◌≤◌, IfOk, Err};
 ghost use Rattle.source.specs.declared.reply.End.{End};
 ghost use Rattle.promise.specs.Rules.{rules_of};

@@ -1,4 +1,6 @@
 // Which rows of a page were released from one tick to another. The rows may stand in any order.
+#![tactic(auto)]
+
 ghost use Rattle.std.specs.Prelude.{◌≡◌, ℕ, ◌+◌, ◌≤◌, length, MatchResult};
 ghost use Rattle.lookup.specs.Lookups.{within, Lies, Lowest, Highest, NoneLies, no_row_number};
 

@@ -1,4 +1,6 @@
 // How long a gate waits: paces give each class its waits, penalty rules turn misses into an epoch.
+#![tactic(auto)]
+
 ghost use Rattle.std.specs.Prelude.{◌≡◌, ℕ};
 ghost use Rattle.pace.specs.Laws.{PaceLaws, PenaltyLaw, quantum_answer, wait_answer};
 

@@ -1,4 +1,6 @@
 // Pages: rows of releases, and a foot with what their timing can tell at most.
+#![tactic(auto)]
+
 ghost use Rattle.std.specs.Prelude.{◌≡◌, ◌+◌, ◌*◌, ◌<◌, ◌≤◌, List, length, MatchResult};
 ghost use Rattle.tally.specs.declared.line.PageFault.TheVariants.{Room};
 ghost use Rattle.tally.specs.declared.line.PageRow.{PageRow};

@@ -1,4 +1,6 @@
 // Calls of a gate that are given as data, and reported as data.
+#![tactic(auto)]
+
 ghost use Rattle.std.specs.Prelude.{◌≡◌};
 ghost use Rattle.promise.specs.Runs.{asked, Call, Played};
 ghost use Rattle.gate.specs.Gates.{view_of, rules_in};

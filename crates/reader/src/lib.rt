@@ -1,4 +1,6 @@
 // Reading a page: its rows into the host's buffer, and its foot held against them.
+#![tactic(auto)]
+
 ghost use Rattle.std.specs.Prelude.{◌≡◌, ℕ, ◌+◌, ◌*◌, ◌≤◌, [], length, IfOk};
 ghost use Rattle.text.specs.Files.{ending};
 ghost use Rattle.text.specs.Lists.{over};

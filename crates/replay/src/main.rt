@@ -1,5 +1,7 @@
 // Reads quotes.sch and quotes.lst in the current folder, and prints the page of a gate over the list, or why there is
 // none.
+#![tactic(auto)]
+
 ghost use Rattle.std.specs.Prelude.{◌≤◌, length, IfOk};
 
 use anyhow::anyhow;

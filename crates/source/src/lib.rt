@@ -1,4 +1,6 @@
 // Where replies come from. Every source means a lawful list of replies still to come and a mark of how it ends.
+#![tactic(auto)]
+
 ghost use Rattle.std.specs.Prelude.{◌≡◌, List, Err};
 ghost use Rattle.source.specs.declared.reply.Reply.{Reply};
 ghost use Rattle.source.specs.declared.reply.End.{End};

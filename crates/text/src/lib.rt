@@ -1,4 +1,6 @@
 // Files of rows: lists and schedules, what is refused in each, and a list paired with its schedule.
+#![tactic(auto)]
+
 pub mod fault;
 mod file;
 pub mod list;

@@ -13,10 +13,10 @@ returns-then-follows g c =
     let value = head_lawful (take 50000 held) t.taken t.last Dry reply (sym c.in-Some.ensures) ok in
     record { value = value; next = next_is held t reply value }
 
-pub returns-in-default : goal.returns-in-default
-returns-in-default g c =
+pub returns-in_default : goal.returns-in_default
+returns-in_default g c =
     let t = c.args.self.now in
-    record { value = head_none (take 50000 (g.R.Buffer.items t.records)) t.taken t.last Dry (sym c.early.ensures ∙ c.in-default.is); next = tt }
+    record { value = head_none (take 50000 (g.R.Buffer.items t.records)) t.taken t.last Dry (sym c.early.ensures ∙ c.in_default.is); next = tt }
 
 pub returns-else-follows : goal.returns-else-follows
 returns-else-follows g c =
