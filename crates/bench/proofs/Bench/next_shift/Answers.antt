@@ -3,11 +3,11 @@ use Rattle.bench.specs.Benches.{free_of, first_shift, shifts, shifts_mark}
 use Rattle.bench.specs.Shifts.{next_answer, next_none, next_is}
 use Rattle.bench.proofs.Bench.next_shift.Goals as goal
 
-pub returns-in-default : goal.returns-in-default
-returns-in-default g c =
+pub returns-in_default : goal.returns-in_default
+returns-in_default g c =
     let b = c.args.self.now in
     record {
-      value = next_none (take 50000 (g.J.Buffer.items b.jobs)) b.taken b.last (free_of b.servers) (sym c.early.ensures ∙ c.in-default.is);
+      value = next_none (take 50000 (g.J.Buffer.items b.jobs)) b.taken b.last (free_of b.servers) (sym c.early.ensures ∙ c.in_default.is);
       next = tt;
     }
 

@@ -11,8 +11,8 @@ loop-server-preserved c =
     let free = c.args.self.now.free in
     let n = c.loop-server.server in
     elim c.if-self-server.branch [
-      | then-self-server w ↦ rw w.first_is (first_moves free n c.loop-server.first c.loop-server.invariant w.if-self-server.true)
-      | else-self-server w ↦ rw w.first_is (first_stays free n c.loop-server.first c.loop-server.invariant w.if-self-server.false)
+      | then-self-server w ↦ rw w.first-is (first_moves free n c.loop-server.first c.loop-server.invariant w.if-self-server.true)
+      | else-self-server w ↦ rw w.first-is (first_stays free n c.loop-server.first c.loop-server.invariant w.if-self-server.false)
     ]
 
 pub returns : goal.returns

@@ -6,4 +6,4 @@ pub returns : goal.returns
 returns c =
     let d = c.args.self.now in
     let inside : c.args.class < length d.quanta = omega arith in
-    (c.if-class-gt-LAST-CLASS.false, quantum_of d.quanta c.args.class c.index-self-class.result inside)
+    (c.if-class-gt-LAST_CLASS.false, quantum_of d.quanta c.args.class c.index-self-class.result inside)

@@ -6,4 +6,4 @@ pub returns : goal.returns
 returns c =
     let s = c.args.self.now in
     let inside : c.args.class < length s.classes = omega arith in
-    (c.if-class-gt-LAST-CLASS.false, ladder_of_is s.classes c.args.class c.index-self-class.result inside)
+    (c.if-class-gt-LAST_CLASS.false, ladder_of_is s.classes c.args.class c.index-self-class.result inside)
