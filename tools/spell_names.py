@@ -16,7 +16,7 @@ import re
 import sys
 
 # Locals, which no declaration of their own shows.
-LOCALS = "rowBits roomy-is some-free each-known lateMisses earlyMisses as-early is-least no-fault".split()
+LOCALS = "roomy-is some-free each-known lateMisses earlyMisses as-early is-least no-fault".split()
 
 # A lemma that would fall together with the definition that it speaks of: (old name, folder) to its new name.
 LEMMAS = {
@@ -27,6 +27,8 @@ LEMMAS = {
     ("file-answer", "crates/"): "file_answer_is",
     ("row-shown", "crates/"): "row_shown_is",
     ("sum-from", "crates/"): "sum_from_is",
+    ("most-of", "crates/"): "most_of_is",
+    ("row-bits", "crates/"): "row_bits_is",
     ("put-all", "crates/"): "put_all_is",
     ("on-field", "crates/"): "on_field_is",
     ("on_row", "crates/driver/proofs/"): "on_row_is",
@@ -36,7 +38,7 @@ LEMMAS = {
     ("ladder_of", "crates/pace/specs/"): "ladder_of_is",
 }
 
-DECLARED = re.compile(r"^\s*(?:(?:abbrev|pub|opaque) )*([a-z_][\w'\-]*)\s*:\s+(?!goal\.)")
+DECLARED = re.compile(r"^\s*(?:(?:abbrev|pub|opaque|unfoldable) )*([a-z_][\w'\-]*)\s*:\s+(?!goal\.)")
 MADE = re.compile(r"^(invariant|decreases)-loop|^invariant-of-")
 NAME = re.compile(r"(?<![\w'\-])[a-z_][\w'\-]*[\w'](?![\w'\-])")
 

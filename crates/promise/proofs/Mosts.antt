@@ -27,13 +27,13 @@ most_up (suc f) q span n hq hd e h =
       | inr b ↦ rw (b, most_from) (most_last q span n h (leb-false (q * (2 ^ suc n - 1)) span b))
     ]
 
-pub most_of : (q span : ℕ) → 1 ≤ q → span ≤ 1000000000 → Most q span (most_of q span)
+pub most_of_is : (q span : ℕ) → 1 ≤ q → span ≤ 1000000000 → Most q span (most_of q span)
 unfolding most_of
-most_of q span hq hd = most_up 30 q span 0 hq hd refl (omega arith)
+most_of_is q span hq hd = most_up 30 q span 0 hq hd refl (omega arith)
 
 pub most_one : (q span n i : ℕ) → Most q span n → Most q span i → n ≡ i
 most_one q span n i a b = omega (arith, b.largest n a.fits, a.largest i b.fits)
 
 -- a number that is the largest is the computed one
 pub most_is : (q span n : ℕ) → 1 ≤ q → span ≤ 1000000000 → Most q span n → n ≡ most_of q span
-most_is q span n hq hd a = most_one q span n (most_of q span) a (most_of q span hq hd)
+most_is q span n hq hd a = most_one q span n (most_of q span) a (most_of_is q span hq hd)

@@ -2,7 +2,7 @@
 use Rattle.std.proofs.Common.{◌≡◌, ℕ, zero, suc, ◌+◌, ◌-◌, ◌*◌, ◌^◌, ◌<◌, ◌≤◌, Bool, true, false, ◌&&◌, eqb, ltb, ◌⊎◌, List, [], ◌∷◌, length, get_or, drop, Ok, Err, Result, sym, refl, ap, ◌∙◌, subst, inl, inr, mul-le-mul_right, mul-le-mul, arith, lit<}
 use Rattle.std.proofs.lemmas.Bool.{cases_Bool, and_parts, and_from, ltb-true, eq-eqb, eqb-true}
 use Rattle.promise.specs.Leaks.{most_of, share, over, exponent}
-use Rattle.promise.proofs.Mosts.{most_of}
+use Rattle.promise.proofs.Mosts.{most_of_is}
 use Rattle.promise.proofs.Settling.{few}
 use Rattle.rows.specs.declared.field.FieldFault.TheVariants.{Form}
 use Rattle.rows.specs.declared.fault.RowFault.{RowFault}
@@ -15,7 +15,7 @@ use Rattle.tally.specs.declared.line.Foot.{Foot}
 use Rattle.tally.specs.declared.account.Tally.{Tally}
 use Rattle.tally.specs.Bits.{row_bits, occurs_in, count}
 use Rattle.tally.specs.Tallies.{foot_of}
-use Rattle.tally.proofs.Searches.{row_bits}
+use Rattle.tally.proofs.Searches.{row_bits_is}
 use Rattle.page.specs.Pages.{foot_bytes}
 use Rattle.reader.specs.PageFiles.{same_foot, foot_from, foot_read}
 use Rattle.reader.proofs.FootReading.{foot_begun}
@@ -115,7 +115,7 @@ over_few (suc n) f occurs h =
 
 most_few : (q span : ℕ) → 1 ≤ q → span ≤ 1000000000 → most_of q span ≤ 29
 most_few q span hq hs =
-    let m = most_of q span hq hs in
+    let m = most_of_is q span hq hs in
     let n : ℕ = most_of q span in
     let one : 1 * (2 ^ n - 1) ≤ q * (2 ^ n - 1) = mul-le-mul_right (2 ^ n - 1) hq in
     few n span (omega (arith, one, m.fits)) hs
@@ -125,7 +125,7 @@ pub foot_within : (quanta : ℕ → ℕ) (t : Tally) → ((c : ℕ) → c ≤ 7 
     → t.misses ≤ 9999 → count t.occurs ≤ 8 → Within foot_row (foot_numbers (foot_of quanta t))
 foot_within quanta t low few since timely fair marks =
     let span : ℕ = t.clock - t.opening in
-    let b : row_bits t.rows ≤ 16 = (row_bits t.rows few).least 16 (omega arith) in
+    let b : row_bits t.rows ≤ 16 = (row_bits_is t.rows few).least 16 (omega arith) in
     let o : over 8 (λ c. most_of (quanta c) span) (occurs_in t.occurs) ≤ 29 * 8
     = over_few 8 (λ c. most_of (quanta c) span) (occurs_in t.occurs) (λ c l. most_few (quanta c) span (low c (omega arith)) (omega arith)) in
     let e : exponent quanta span (occurs_in t.occurs) ≤ 233 = omega (arith, o) in

@@ -7,14 +7,14 @@ use Rattle.source.specs.Replies.{horizon}
 use Rattle.promise.specs.Rules.{Rules, Laws}
 use Rattle.promise.specs.Leaks.{Most, most_of, share, over, exponent}
 use Rattle.promise.specs.Promise.{Key, Seen, All, Different, occurs}
-use Rattle.promise.proofs.Mosts.{most_of}
+use Rattle.promise.proofs.Mosts.{most_of_is}
 use Rattle.promise.proofs.Kept.{few_keys}
 use Rattle.tally.specs.declared.line.PageRow.{PageRow}
 use Rattle.tally.specs.declared.line.Foot.{Foot}
 use Rattle.tally.specs.declared.account.Tally.{Tally}
 use Rattle.tally.specs.Bits.{row_bits, occurs_in}
 use Rattle.tally.specs.Tallies.{begun, taken, counted, tallied, foot_of, row_key, Bounds}
-use Rattle.tally.proofs.Searches.{row_bits}
+use Rattle.tally.proofs.Searches.{row_bits_is}
 
 -- the rows of a tally, and where it was opened
 pub rows_counted : (t : Tally) (rs : List PageRow) → (counted t rs).rows ≡ t.rows + length rs
@@ -84,10 +84,10 @@ bounds quanta t few since timely low rs is m laws same lists seen different =
     let n : ℕ → ℕ = λ c. most_of (quanta c) span in
     let e : ℕ = 1 + over 8 n (occurs keys) in
     let most : (c : ℕ) → c ≤ 7 → Most (m.quantum c) span (n c)
-    = λ c hc. subst (λ q. Most q span (n c)) (sym (same c hc)) (most_of (quanta c) span (low c hc) (omega arith)) in
+    = λ c hc. subst (λ q. Most q span (n c)) (sym (same c hc)) (most_of_is (quanta c) span (low c hc) (omega arith)) in
     let a : length lists ≤ (length keys + 1) ^ e = few_keys m laws o t.clock (omega arith) since keys n most lists seen different in
     let size : length keys ≡ t.rows = length-map rs row_key ∙ sym (ap (λ (x : Tally). x.rows) is ∙ rows_counted (begun o) rs ∙ omega arith) in
-    let wide : (length keys + 1) ^ e ≤ (2 ^ b) ^ e = pow-le-pow_left (omega (arith, size, (row_bits t.rows few).enough)) e in
+    let wide : (length keys + 1) ^ e ≤ (2 ^ b) ^ e = pow-le-pow_left (omega (arith, size, (row_bits_is t.rows few).enough)) e in
     let marks : over 8 n (occurs_in t.occurs) ≡ over 8 n (occurs keys)
     = over_same 8 n n (occurs_in t.occurs) (occurs keys) (λ c _. refl) (λ c hc. ap (λ (x : Tally). occurs_in x.occurs c) is ∙ marks_tallied o rs c hc) in
     let f : (foot_of quanta t).bits ≡ b * e = ap (λ x. b * (1 + x)) marks in

@@ -76,12 +76,12 @@ bits_up (suc f) rows b h l =
           (λ i g. elim (cases_lt b i) [ inl lt ↦ lt | inr le ↦ (let w : 2 ^ i ≤ 2 ^ b = pow_mono le in absurd (omega (arith, w, leb-false (rows + 1) (2 ^ b) e))) ]))
     ]
 
-pub row_bits : (rows : ℕ) → rows ≤ 50000 → Enough rows (row_bits rows)
+pub row_bits_is : (rows : ℕ) → rows ≤ 50000 → Enough rows (row_bits rows)
 unfolding row_bits
-row_bits rows h = bits_up 16 rows 0 (omega arith) (λ i g. omega arith)
+row_bits_is rows h = bits_up 16 rows 0 (omega arith) (λ i g. omega arith)
 
 pub enough_is : (rows b : ℕ) → rows ≤ 50000 → Enough rows b → b ≡ row_bits rows
-enough_is rows b h e = let r = row_bits rows h in omega (arith, e.least (row_bits rows) r.enough, r.least b e.enough)
+enough_is rows b h e = let r = row_bits_is rows h in omega (arith, e.least (row_bits rows) r.enough, r.least b e.enough)
 
 -- one class more in a sum over classes
 pub over_more : (n : ℕ) (f : ℕ → ℕ) (occurs : ℕ → Bool) → over (n + 1) f occurs ≡ over n f occurs + share (f n) (occurs n)

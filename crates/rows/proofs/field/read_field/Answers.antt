@@ -10,11 +10,11 @@ returns-then-value-eq0 c =
     let a = no_form c.args.bytes.now c.args.limit c.requires (zero_turn c.args.bytes.now _ c.loop-b.begun c.loop-b.value c.loop-b.b-index c.loop-b-test.true c.if-begun.true c.if-value-eq0.true c.if-c-ge48.true c.if-c-le57.true c.loop-b.invariant.0) in
     record { value = a.0; exact = a.1 }
 
-pub overflow-mul-value : goal.overflow-mul-value
-overflow-mul-value c = omega (arith, room_for_digit c.loop-b.value c.loop-b.b-index c.loop-b.invariant.1 (omega arith))
+pub overflow_mul-value : goal.overflow_mul-value
+overflow_mul-value c = omega (arith, room_for_digit c.loop-b.value c.loop-b.b-index c.loop-b.invariant.1 (omega arith))
 
-pub overflow-add-value : goal.overflow-add-value
-overflow-add-value c = omega (arith, room_for_digit c.loop-b.value c.loop-b.b-index c.loop-b.invariant.1 (omega arith))
+pub overflow_add-value : goal.overflow_add-value
+overflow_add-value c = omega (arith, room_for_digit c.loop-b.value c.loop-b.b-index c.loop-b.invariant.1 (omega arith))
 
 pub returns-then-begun-2 : goal.returns-then-begun-2
 returns-then-begun-2 c =

@@ -6,4 +6,4 @@ pub returns-then-row-at : goal.returns-then-row-at
 returns-then-row-at c = column_short c.args.column.width c.args.column.limit c.args.row.now c.args.at (omega arith)
 
 pub returns : goal.returns
-returns c = column_whole c.args.column.width c.args.column.limit c.args.row.now c.args.at (omega arith) _ c.read-field.ensures.value
+returns c = column_whole c.args.column.width c.args.column.limit c.args.row.now c.args.at (omega arith) _ c.read_field.ensures.value

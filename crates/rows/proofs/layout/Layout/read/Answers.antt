@@ -22,19 +22,19 @@ loop-i-init g c =
 pub loop-i-preserved : goal.loop-i-preserved
 loop-i-preserved g c =
     let t = c.args.self.now in
-    let e = sym c.read-column.ensures ∙ numbered_ok _ c.read-column.result c.in-ok-values.field-0 c.in-ok-values.ensures in
+    let e = sym c.read_column.ensures ∙ numbered_ok _ c.read_column.result c.in_ok-values.field-0 c.in_ok-values.ensures in
     let l = c.loop-i.invariant.2 in (
-      read_turn t.columns c.args.row.now c.loop-i.values t.first c.loop-i.i c.loop-i.at _ c.loop-i.invariant.0 c.index-self-i.result c.in-ok-values.field-0 (omega arith) (omega arith) e,
+      read_turn t.columns c.args.row.now c.loop-i.values t.first c.loop-i.i c.loop-i.at _ c.loop-i.invariant.0 c.index-self-i.result c.in_ok-values.field-0 (omega arith) (omega arith) e,
       place_room _ _ _ c.args.row.now c.loop-i.at c.loop-i.invariant.1 e,
-      length-set c.loop-i.values c.loop-i.i c.in-ok-values.field-0 ∙ l,
+      length-set c.loop-i.values c.loop-i.i c.in_ok-values.field-0 ∙ l,
     )
 
-pub returns-in-err-values : goal.returns-in-err-values
-returns-in-err-values g c =
+pub returns-in_err-values : goal.returns-in_err-values
+returns-in_err-values g c =
     let t = c.args.self.now in
-    let p = err_from_is_err_and c.from-residual.result c.from-residual.ensures.1 in
-    let q = numbered_err _ c.read-column.result c.in-err-values.field-0.0 c.in-err-values.ensures in
-    let e = read_fault t.columns c.args.row.now c.loop-i.values t.first c.loop-i.i c.loop-i.at _ c.loop-i.invariant.0 c.index-self-i.result q.0 (omega arith) (sym c.read-column.ensures ∙ q.1) in
+    let p = err_from_is_err_and c.from_residual.result c.from_residual.ensures.1 in
+    let q = numbered_err _ c.read_column.result c.in_err-values.field-0.0 c.in_err-values.ensures in
+    let e = read_fault t.columns c.args.row.now c.loop-i.values t.first c.loop-i.i c.loop-i.at _ c.loop-i.invariant.0 c.index-self-i.result q.0 (omega arith) (sym c.read_column.ensures ∙ q.1) in
     let r = p.1 ∙ (ap Err p.2 ∙ (ap (λ f. Err (Field f)) q.2 ∙ e)) in
     record { value = r; exact = row_exact t.first (shapes t.columns) c.args.row.now _ (sound t.columns) r; refused = row_refused t.first (shapes t.columns) c.args.row.now _ (sound t.columns) r }
 

@@ -10,5 +10,5 @@ returns g c =
     let f = sym c.if-not-fits.ensures in
     record {
       value = writes (shapes t.columns) c.args.values.now (length c.args.out.now) (c.if-out-self.false ∙ t.whole) f;
-      after = written (shapes t.columns) c.args.values.now c.write-fields.new.out (sound t.columns) f c.write-fields.ensures;
+      after = written (shapes t.columns) c.args.values.now c.write_fields.new.out (sound t.columns) f c.write_fields.ensures;
     }
