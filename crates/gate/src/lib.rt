@@ -8,6 +8,7 @@ ghost use Rattle.promise.specs.Views.{opened, settled, base, moved, released, en
 ghost use Rattle.promise.specs.declared.event.Event.TheVariants as event;
 ghost use Rattle.promise.specs.Runs.{Call};
 ghost use Rattle.promise.specs.Promise.{Promise};
+ghost use Rattle.promise.proofs.Releases.{released_lawful};
 ghost use Rattle.gate.specs.Gates.{view_of, rules_in, standing_of};
 
 use ledger::Ledger;
@@ -200,6 +201,12 @@ impl<S: Source, P: Pace, R: Penalty> Source for Gate<S, P, R> {
     ghost coming = { λ g. released (rules_in P.Pace R.Penalty g) (standing_of g.ledger) (S.Source.coming g.source) };
 
     ghost mark = { λ g. ending (rules_in P.Pace R.Penalty g) (standing_of g.ledger) (S.Source.coming g.source) (S.Source.mark g.source) };
+
+    ghost lawful = { λ g.
+        released_lawful
+        (rules_in (record { quanta = P.Pace.quanta; waits = P.Pace.waits }) (record { rule = R.Penalty.rule }) g)
+        (record { pace = P.Pace.lawful g.pace; penalty = R.Penalty.lawful g.penalty })
+        (standing_of g.ledger) 0 _ (S.Source.lawful g.source) };
 
     fn head(&self) -> Result<Reply<S::Body>, End> {
         self.head()

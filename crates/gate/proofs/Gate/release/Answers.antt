@@ -23,46 +23,39 @@ never x y e = let z : ◌≡◌ {A = ℕ} 0 1 = cc in omega arith
 
 pub charge-requires : goal.charge-requires
 charge-requires g c =
-    let k = left g c.args.self.now c.in-ok-next.next c.in-ok-next.ensures in
+    let k = left g c.args.self.now c.in_ok-next.next c.in_ok-next.ensures in
     record { misses = omega (arith, k.few_misses); releases = omega (arith, k.few_releases) }
 
-pub overflow-add-all-misses : goal.overflow-add-all-misses
-overflow-add-all-misses g c =
-    let k = left g c.args.self.now c.in-ok-next.next c.in-ok-next.ensures in
+pub overflow_add-all_misses : goal.overflow_add-all_misses
+overflow_add-all_misses g c =
+    let k = left g c.args.self.now c.in_ok-next.next c.in_ok-next.ensures in
     omega (arith, k.few_all)
 
-pub invariant-of-self : goal.invariant-of-self
-invariant-of-self g c =
+pub invariant_of-self : goal.invariant_of-self
+invariant_of-self g c =
     let l = c.args.self.now.ledger in
-    let x = c.in-ok-next.next in
+    let x = c.in_ok-next.next in
     let n : ℕ = x.reply.«class» in
     let row = c.charge.new.self in
-    let k = left g c.args.self.now x c.in-ok-next.ensures in
-    let is = c.charge.ensures in (
-      length-set l.rows n row ∙ l.table,
-      (
-        omega (arith, k.up.rises, l.after),
-        (
-          omega (arith, k.up.within),
-          (
-            λ i h. omega (arith, charged_set l.rows n (settled_of x) row is k.short l.opening l.clock (base (standing_of l) x.reply.asked) l.after (omega arith) k.up l.charged i h),
-            (
-              omega (arith, misses_sum l.rows n (settled_of x) row is k.short, l.summed),
-              (omega (arith, releases_sum l.rows n (settled_of x) row is k.short, k.up.rises, l.after, l.counted), tt),
-            ),
-          ),
-        ),
-      ),
-    )
+    let k = left g c.args.self.now x c.in_ok-next.ensures in
+    let is = c.charge.ensures in
+    record {
+      table = length-set l.rows n row ∙ l.table;
+      after = omega (arith, k.up.rises, l.after);
+      within = omega (arith, k.up.within);
+      charged = λ i h. omega (arith, charged_set l.rows n (settled_of x) row is k.short l.opening l.clock (base (standing_of l) x.reply.asked) l.after (omega arith) k.up l.charged i h);
+      summed = omega (arith, misses_sum l.rows n (settled_of x) row is k.short, l.summed);
+      counted = omega (arith, releases_sum l.rows n (settled_of x) row is k.short, k.up.rises, l.after, l.counted);
+    }
 
 pub returns : goal.returns
 returns g c =
     let a = c.args.self.now in
     let l = a.ledger in
-    let x = c.in-ok-next.next in
+    let x = c.in_ok-next.next in
     let n : ℕ = x.reply.«class» in
     let row = c.charge.new.self in
-    let e = c.in-ok-next.ensures in
+    let e = c.in_ok-next.ensures in
     let k = left g a x e in
     let is = c.charge.ensures in
     let v = view_of g.S.Source a in

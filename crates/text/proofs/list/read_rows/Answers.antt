@@ -12,15 +12,15 @@ loop-i-init c = list_none c.args.bytes.now c.args.rows c.args.out.now
 
 pub loop-i-preserved : goal.loop-i-preserved
 loop-i-preserved c =
-    let e = numbered_ok _ c.read-reply.result c.in-ok-reply.reply c.in-ok-reply.ensures in
-    let read = sym (ap (reply_read c.loop-i.last) (row_part c.args.bytes.now (35 * c.loop-i.i) 35)) ∙ (sym c.read-reply.ensures ∙ e) in
-    list_more c.args.bytes.now c.args.rows c.args.out.now c.loop-i.out c.loop-i.i c.loop-i.last c.loop-i.invariant c.in-ok-reply.reply c.loop-i-test.true (omega arith) read
+    let e = numbered_ok _ c.read_reply.result c.in_ok-reply.reply c.in_ok-reply.ensures in
+    let read = sym (ap (reply_read c.loop-i.last) (row_part c.args.bytes.now (35 * c.loop-i.i) 35)) ∙ (sym c.read_reply.ensures ∙ e) in
+    list_more c.args.bytes.now c.args.rows c.args.out.now c.loop-i.out c.loop-i.i c.loop-i.last c.loop-i.invariant c.in_ok-reply.reply c.loop-i-test.true (omega arith) read
 
-pub returns-in-err-reply : goal.returns-in-err-reply
-returns-in-err-reply c =
-    let p = err_from_is_err_and c.from-residual.result c.from-residual.ensures.1 in
-    let q = numbered_err _ c.read-reply.result c.in-err-reply.field-0.0 c.in-err-reply.ensures in
-    let read = sym (ap (reply_read c.loop-i.last) (row_part c.args.bytes.now (35 * c.loop-i.i) 35)) ∙ (sym c.read-reply.ensures ∙ q.1) in
+pub returns-in_err-reply : goal.returns-in_err-reply
+returns-in_err-reply c =
+    let p = err_from_is_err_and c.from_residual.result c.from_residual.ensures.1 in
+    let q = numbered_err _ c.read_reply.result c.in_err-reply.field-0.0 c.in_err-reply.ensures in
+    let read = sym (ap (reply_read c.loop-i.last) (row_part c.args.bytes.now (35 * c.loop-i.i) 35)) ∙ (sym c.read_reply.ensures ∙ q.1) in
     let a = list_faulty c.args.bytes.now c.args.rows c.args.out.now c.loop-i.out c.loop-i.i c.loop-i.last c.loop-i.invariant q.0 (omega arith) c.loop-i-test.true read in
     record { value = p.1 ∙ (ap Err p.2 ∙ (ap (λ f. Err (Row f)) q.2 ∙ a.0)); after = a.1 }
 

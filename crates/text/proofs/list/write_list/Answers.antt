@@ -4,9 +4,9 @@ use Rattle.text.proofs.ListChecking.{checked, each}
 use Rattle.text.proofs.ListWriting.{rows_none, rows_more, rows_all, rows_back, wrote}
 use Rattle.text.proofs.list.write_list.Goals as goal
 
-pub write-reply-requires : goal.write-reply-requires
-write-reply-requires c =
-    let k = checked c.args.records.now _ c.in-ok-check-list.ensures in
+pub write_reply-requires : goal.write_reply-requires
+write_reply-requires c =
+    let k = checked c.args.records.now _ c.in_ok-check_list.ensures in
     let r = each c.args.records.now 1 0 c.loop-i.i k.1 c.loop-i-test.true in
     record { room = part_length c.loop-i.out (35 * c.loop-i.i) 35 (omega arith); asked = r.0; kind = r.1; ready = r.2 }
 
@@ -15,13 +15,13 @@ loop-i-init c = rows_none c.args.records.now c.args.out.now
 
 pub loop-i-preserved : goal.loop-i-preserved
 loop-i-preserved c =
-    rows_more c.args.records.now c.args.out.now c.loop-i.out c.write-reply.new.row c.loop-i.i c.loop-i-test.true
-    (c.write-reply.auto.row ∙ part_length c.loop-i.out (35 * c.loop-i.i) 35 (omega arith)) c.write-reply.ensures.after c.write-reply.ensures.within c.loop-i.invariant
+    rows_more c.args.records.now c.args.out.now c.loop-i.out c.write_reply.new.row c.loop-i.i c.loop-i-test.true
+    (c.write_reply.auto.row ∙ part_length c.loop-i.out (35 * c.loop-i.i) 35 (omega arith)) c.write_reply.ensures.after c.write_reply.ensures.within c.loop-i.invariant
 
 pub returns : goal.returns
 returns c =
     record {
-      value = wrote c.args.records.now (length c.args.out.now) _ c.in-ok-check-list.ensures (omega arith);
+      value = wrote c.args.records.now (length c.args.out.now) _ c.in_ok-check_list.ensures (omega arith);
       after = rows_all c.args.records.now c.args.out.now c.loop-i.out c.loop-i.i (omega arith) c.loop-i.invariant;
-      back = rows_back c.args.records.now c.args.out.now c.loop-i.out c.loop-i.i (omega arith) c.loop-i.invariant _ c.in-ok-check-list.ensures;
+      back = rows_back c.args.records.now c.args.out.now c.loop-i.out c.loop-i.i (omega arith) c.loop-i.invariant _ c.in_ok-check_list.ensures;
     }

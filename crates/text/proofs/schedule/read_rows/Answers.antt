@@ -14,14 +14,14 @@ loop-i-init c =
 
 pub loop-i-preserved : goal.loop-i-preserved
 loop-i-preserved c =
-    let e = numbered_ok _ c.read-step.result c.in-ok-at-number.field-0 c.in-ok-at-number.ensures in
-    taken_more schedule_step 17 no_steps c.args.bytes.now c.args.rows c.loop-i.i (ladders_of c.loop-i.steps) (ladders_of c.read-step.new.steps) c.loop-i-test.true c.loop-i.invariant c.read-step.result _ e c.read-step.ensures
+    let e = numbered_ok _ c.read_step.result c.in_ok-at_number.field-0 c.in_ok-at_number.ensures in
+    taken_more schedule_step 17 no_steps c.args.bytes.now c.args.rows c.loop-i.i (ladders_of c.loop-i.steps) (ladders_of c.read_step.new.steps) c.loop-i-test.true c.loop-i.invariant c.read_step.result _ e c.read_step.ensures
 
-pub returns-in-err-at-number : goal.returns-in-err-at-number
-returns-in-err-at-number c =
-    let p = err_from_is_err_and c.from-residual.result c.from-residual.ensures.1 in
-    let q = numbered_err _ c.read-step.result c.in-err-at-number.field-0.0 c.in-err-at-number.ensures in
-    let stops = refused_stops schedule_step 17 no_steps c.args.bytes.now c.args.rows c.loop-i.i (ladders_of c.loop-i.steps) (ladders_of c.read-step.new.steps) c.loop-i-test.true c.loop-i.invariant c.read-step.result q.0 q.1 c.read-step.ensures in
+pub returns-in_err-at_number : goal.returns-in_err-at_number
+returns-in_err-at_number c =
+    let p = err_from_is_err_and c.from_residual.result c.from_residual.ensures.1 in
+    let q = numbered_err _ c.read_step.result c.in_err-at_number.field-0.0 c.in_err-at_number.ensures in
+    let stops = refused_stops schedule_step 17 no_steps c.args.bytes.now c.args.rows c.loop-i.i (ladders_of c.loop-i.steps) (ladders_of c.read_step.new.steps) c.loop-i-test.true c.loop-i.invariant c.read_step.result q.0 q.1 c.read_step.ensures in
     record {
       value = p.1 ∙ (ap Err p.2 ∙ (ap (λ f. Err (Row f)) q.2 ∙ sym (ap (λ (r : Reading (List (List ℕ))). ending c.args.rows r.fault) stops.0)));
       after = stops.1 ∙ sym (ap (λ (r : Reading (List (List ℕ))). r.left) stops.0);

@@ -7,13 +7,13 @@ use Rattle.text.proofs.schedule.read_schedule.Goals as goal
 
 pub returns : goal.returns
 returns c =
-    let size = c.in-ok-rows.ensures.value in
+    let size = c.in_ok-rows.ensures.value in
     let old = ladders_of c.args.steps.now in
-    let value = c.read-rows.ensures.value ∙ file_answer_is schedule_step 17 no_steps c.args.bytes.now c.in-ok-rows.rows 128 old size in
-    let after = c.read-rows.ensures.after ∙ file_left schedule_step 17 no_steps c.args.bytes.now c.in-ok-rows.rows 128 old size in
+    let value = c.read_rows.ensures.value ∙ file_answer_is schedule_step 17 no_steps c.args.bytes.now c.in_ok-rows.rows 128 old size in
+    let after = c.read_rows.ensures.after ∙ file_left schedule_step 17 no_steps c.args.bytes.now c.in_ok-rows.rows 128 old size in
     record {
       value = value;
       after = after;
-      exact = subst (λ t. ScheduleExact c.args.bytes.now t c.read-rows.result) (sym after) (schedule_exact c.args.bytes.now old c.read-rows.result value);
-      same = λ e. absurd (rows_not_size _ _ _ c.read-rows.ensures.value e);
+      exact = subst (λ t. ScheduleExact c.args.bytes.now t c.read_rows.result) (sym after) (schedule_exact c.args.bytes.now old c.read_rows.result value);
+      same = λ e. absurd (rows_not_size _ _ _ c.read_rows.ensures.value e);
     }

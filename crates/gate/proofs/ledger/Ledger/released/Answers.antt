@@ -8,8 +8,8 @@ use Rattle.gate.proofs.ledger.Ledger.released.Goals as goal
 pub loop-row-init : goal.loop-row-init
 loop-row-init c = omega (arith, sum-map (λ (r : Row). r.releases) c.args.self.now.rows)
 
-pub overflow-add-count : goal.overflow-add-count
-overflow-add-count c =
+pub overflow_add-count : goal.overflow_add-count
+overflow_add-count c =
     let l = c.args.self.now in
     omega (arith, sum_by-drop_more (λ (r : Row). r.releases) l.rows c.loop-row.row-index no_row (omega (arith, l.table)), l.counted, l.within)
 
