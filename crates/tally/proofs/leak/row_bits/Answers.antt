@@ -2,8 +2,8 @@ use Rattle.std.proofs.Common.{arith}
 use Rattle.tally.proofs.Searches.{lacking_more, lacking_enough, bits_few, enough_is}
 use Rattle.tally.proofs.leak.row_bits.Goals as goal
 
-pub overflow-add-b : goal.overflow-add-b
-overflow-add-b c = omega (arith, bits_few _ _ _ c.loop-power.invariant c.requires)
+pub overflow_add-b : goal.overflow_add-b
+overflow_add-b c = omega (arith, bits_few _ _ _ c.loop-power.invariant c.requires)
 
 pub loop-power-smaller : goal.loop-power-smaller
 loop-power-smaller c = omega (arith, bits_few _ _ _ c.loop-power.invariant c.requires)

@@ -4,8 +4,8 @@ use Rattle.promise.proofs.Mosts.{most_is}
 use Rattle.pace.proofs.Answering.{known_class}
 use Rattle.tally.proofs.leak.share.Goals as goal
 
-pub most-misses-requires : goal.most-misses-requires
-most-misses-requires g c =
+pub most_misses-requires : goal.most_misses-requires
+most_misses-requires g c =
     let q = known_class c.args.«class» _ _ c.requires.known c.in-Ok.ensures in
     record { some = omega (arith, q, (g.met.P.Pace.lawful c.args.quanta.now).quantum_low c.args.«class» c.requires.known); within = c.requires.within }
 
@@ -13,10 +13,10 @@ pub returns : goal.returns
 returns g c =
     let n : ℕ = g.P.Pace.quanta c.args.quanta.now c.args.«class» in
     let q : c.in-Ok.quantum ≡ n = known_class c.args.«class» _ _ c.requires.known c.in-Ok.ensures in
-    let most : c.most-misses.result ≡ most_of c.in-Ok.quantum c.args.span
-    = most_is c.in-Ok.quantum c.args.span c.most-misses.result
-    (omega (arith, q, (g.met.P.Pace.lawful c.args.quanta.now).quantum_low c.args.«class» c.requires.known)) c.requires.within c.most-misses.ensures.most in
+    let most : c.most_misses.result ≡ most_of c.in-Ok.quantum c.args.span
+    = most_is c.in-Ok.quantum c.args.span c.most_misses.result
+    (omega (arith, q, (g.met.P.Pace.lawful c.args.quanta.now).quantum_low c.args.«class» c.requires.known)) c.requires.within c.most_misses.ensures.most in
     record {
       value = most ∙ ap (λ k. most_of k c.args.span) q ∙ sym (ap (share (most_of n c.args.span)) c.if-not-occurs.false);
-      few = c.most-misses.ensures.few;
+      few = c.most_misses.ensures.few;
     }
