@@ -11,7 +11,7 @@ unreachable-requires c =
     let a = c.loop-row.invariant in
     let takes = accounted_takes start c.args.rows.now c.loop-row.row-index c.loop-row.account.tally a _ c.loop-row-test.true in
     let none = ap (λ (t : Tally). t.rows) c.new-account.ensures in
-    takes_not_refused c.loop-row.account.tally _ _ _ takes (omega (arith, a.count, none, c.requires.few)) (omega (arith, a.count, none)) c.in-default.ensures
+    takes_not_refused c.loop-row.account.tally _ _ _ takes (omega (arith, a.count, none, c.requires.few)) (omega (arith, a.count, none)) c.in_default.ensures
 
 pub loop-row-preserved : goal.loop-row-preserved
 loop-row-preserved c =

@@ -16,24 +16,24 @@ unreachable-requires c =
     let bytes = c.args.bytes.now in
     let i : ℕ = c.loop-i.i in
     let t : Tally = c.loop-i.account.tally in
-    let e = numbered_ok _ c.read-line.result c.in-ok-row.row c.in-ok-row.ensures in
+    let e = numbered_ok _ c.read_line.result c.in_ok-row.row c.in_ok-row.ensures in
     let line : List ℕ = take (36 * i + 36 - 36 * i) (drop (36 * i) bytes) in
-    let takes = (line_only t line c.in-ok-row.row (sym c.read-line.ensures ∙ e)).1 in
+    let takes = (line_only t line c.in_ok-row.row (sym c.read_line.ensures ∙ e)).1 in
     let at : t.rows ≡ i = rows_read c.new-account.result.tally.opening bytes c.args.rows c.args.out.now c.loop-i.out i t c.loop-i.invariant (omega arith) in
-    takes_not_refused t c.in-ok-row.row _ _ takes (omega (arith, at, c.requires.few)) (omega (arith, at, c.requires.whole)) c.in-default.ensures
+    takes_not_refused t c.in_ok-row.row _ _ takes (omega (arith, at, c.requires.few)) (omega (arith, at, c.requires.whole)) c.in_default.ensures
 
 pub loop-i-preserved : goal.loop-i-preserved
 loop-i-preserved c =
-    let e = numbered_ok _ c.read-line.result c.in-ok-row.row c.in-ok-row.ensures in
-    let read = sym (ap (line_read c.loop-i.account.tally) (row_part c.args.bytes.now (36 * c.loop-i.i) 36)) ∙ (sym c.read-line.ensures ∙ e) in
+    let e = numbered_ok _ c.read_line.result c.in_ok-row.row c.in_ok-row.ensures in
+    let read = sym (ap (line_read c.loop-i.account.tally) (row_part c.args.bytes.now (36 * c.loop-i.i) 36)) ∙ (sym c.read_line.ensures ∙ e) in
     page_more c.new-account.result.tally.opening c.args.bytes.now c.args.rows c.args.out.now c.loop-i.out c.loop-i.i c.loop-i.account.tally c.loop-i.invariant
-    c.in-ok-row.row c.in-Ok.next.tally c.loop-i-test.true (omega arith) read c.in-Ok.ensures.1
+    c.in_ok-row.row c.in-Ok.next.tally c.loop-i-test.true (omega arith) read c.in-Ok.ensures.1
 
-pub returns-in-err-row : goal.returns-in-err-row
-returns-in-err-row c =
-    let p = err_from_is_err_and c.from-residual.result c.from-residual.ensures.1 in
-    let q = numbered_err _ c.read-line.result c.in-err-row.field-0.0 c.in-err-row.ensures in
-    let read = sym (ap (line_read c.loop-i.account.tally) (row_part c.args.bytes.now (36 * c.loop-i.i) 36)) ∙ (sym c.read-line.ensures ∙ q.1) in
+pub returns-in_err-row : goal.returns-in_err-row
+returns-in_err-row c =
+    let p = err_from_is_err_and c.from_residual.result c.from_residual.ensures.1 in
+    let q = numbered_err _ c.read_line.result c.in_err-row.field-0.0 c.in_err-row.ensures in
+    let read = sym (ap (line_read c.loop-i.account.tally) (row_part c.args.bytes.now (36 * c.loop-i.i) 36)) ∙ (sym c.read_line.ensures ∙ q.1) in
     let o : c.new-account.result.tally.opening ≡ c.args.opening.tick = ap (λ (t : Tally). t.opening) c.new-account.ensures in
     let a = page_faulty c.new-account.result.tally.opening c.args.bytes.now c.args.rows c.args.out.now c.loop-i.out c.loop-i.i c.loop-i.account.tally c.loop-i.invariant q.0 (omega arith) c.loop-i-test.true read in
     record {

@@ -54,7 +54,7 @@ unreachable-requires g c =
     let x = c.in-Ok.release in
     let e = c.in-Ok.ensures in
     let k = turn g m c.loop-gate.gate c.release.new.self x i.0 e.value e.call.1 e.timely in
-    c.in-default.not-Ok tt
+    c.in_default.not-Ok tt
     (c.row.ensures.value
     ∙ accepted m _ _ _ _ c.loop-gate.page.account.tally _ c.loop-gate.buf x i.1 k.out k.is k.inside e.timely k.few (sym c.loop-gate-test.ensures))
 

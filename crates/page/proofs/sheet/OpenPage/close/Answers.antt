@@ -16,6 +16,6 @@ pub returns : goal.returns
 returns g c =
     let a = c.args.self.account in
     record {
-      after = (omega arith, refl, line_put c.args.buf.now c.write-foot.new.line _ a.tally.rows (c.write-foot.ensures ∙ ap foot_bytes c.foot.ensures.value));
+      after = (omega arith, refl, line_put c.args.buf.now c.write_foot.new.line _ a.tally.rows (c.write_foot.ensures ∙ ap foot_bytes c.foot.ensures.value));
       bound = bounds _ a.tally a.few a.since a.timely (g.met.P.Pace.lawful c.args.quanta.now).quantum_low;
     }

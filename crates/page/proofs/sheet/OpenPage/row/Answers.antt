@@ -7,11 +7,11 @@ use Rattle.page.proofs.sheet.OpenPage.row.Goals as goal
 pub returns : goal.returns
 returns c =
     let t = c.args.self.now.account.tally in
-    let taken = c.in-ok-account.ensures in
+    let taken = c.in_ok-account.ensures in
     let parts = taken_parts t c.args.row _ taken.0 in
-    let written = line_put c.args.buf.now c.write-row.new.line _ t.rows c.write-row.ensures in
+    let written = line_put c.args.buf.now c.write_row.new.line _ t.rows c.write_row.ensures in
     record {
       value = sym taken.0;
       after = (taken.1, written);
-      room = λ _. omega (arith, ap (λ (x : Tally). x.rows) taken.1, put_length c.args.buf.now c.write-row.new.line t.rows (omega (arith, c.write-row.auto.line)) (omega (arith, parts.fits)), parts.fits);
+      room = λ _. omega (arith, ap (λ (x : Tally). x.rows) taken.1, put_length c.args.buf.now c.write_row.new.line t.rows (omega (arith, c.write_row.auto.line)) (omega (arith, parts.fits)), parts.fits);
     }
