@@ -13,13 +13,13 @@ use Rattle.driver.proofs.replay.fill.Given as given
 use Rattle.driver.proofs.replay.fill.Goals as goal
 
 -- one release, by the rules that the gate had at first
-record Turn (g : given.Over) (m : Rules) (a b : Gate g.row.S.Denot g.row.P.Denot g.row.R.Denot) (x : Release g.S.Body.Denot) : Type 0 where
+record Turn (g : given.Over) (m : Rules) (a b : Gate g.row.S.Denot g.row.P.Denot g.row.R.Denot) (x : Release g.row.S-Body.Denot) : Type 0 where
   pub out : Ok x ≡ release m (view_of g.S.Source a)
   pub is : view_of g.S.Source b ≡ next m (view_of g.S.Source a)
   pub inside : x.reply.«class» < length (view_of g.S.Source a).standing.misses
   pub few : all (view_of g.S.Source b).standing ≤ 232
 
-turn : (g : given.Over) (m : Rules) (a b : Gate g.row.S.Denot g.row.P.Denot g.row.R.Denot) (x : Release g.S.Body.Denot)
+turn : (g : given.Over) (m : Rules) (a b : Gate g.row.S.Denot g.row.P.Denot g.row.R.Denot) (x : Release g.row.S-Body.Denot)
     → rules_in g.P.Pace g.R.Penalty a ≡ m
     → Ok x ≡ release (rules_in g.P.Pace g.R.Penalty a) (view_of g.S.Source a)
     → view_of g.S.Source b ≡ next (rules_in g.P.Pace g.R.Penalty a) (view_of g.S.Source a)
