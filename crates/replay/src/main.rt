@@ -4,10 +4,10 @@
 
 ghost use Rattle.std.specs.Prelude.{◌≤◌, length, IfOk};
 
-use anyhow::anyhow;
 use driver::job::{Printed, job};
 use source::reply::Reply;
 use std::io::{Read, Write};
+use std::process::ExitCode;
 use std::{fs, io};
 
 // The program holds so many list rows.
@@ -75,10 +75,10 @@ fn print(rt: &HostRuntime) -> anyhow::Result<bool> {
 
 // Ends with status 0 after a page and with status 1 after a refusal line; a file that cannot be read is reported on
 // standard error, with status 1 too.
-fn main(rt: HostRuntime) -> anyhow::Result<()> {
+fn main(rt: HostRuntime) -> anyhow::Result<ExitCode> {
     if print(&rt)? {
-        Ok(())
+        Ok(ExitCode::SUCCESS)
     } else {
-        Err(anyhow!("refused"))
+        Ok(ExitCode::FAILURE)
     }
 }

@@ -123,11 +123,11 @@ fn a_list_written_reads_back_and_both_leave_what_lies_after_it(rt: HostRuntime) 
     ];
     let mut bytes = [7u8; 108];
     assert_eq!(rt; write_list(&list, &mut bytes), Ok(105));
-    assert!(rt; &bytes[0..105] == text);
-    assert!(rt; &bytes[105..108] == &[7, 7, 7]);
+    assert!(rt; &bytes[0..105] == text.as_slice());
+    assert!(rt; &bytes[105..108] == [7, 7, 7].as_slice());
     let mut out = [OLD; 4];
     assert_eq!(rt; read_list(&bytes[0..105], &mut out), Ok(3));
-    assert!(rt; &out[0..3] == &list);
+    assert!(rt; &out[0..3] == list.as_slice());
     assert_eq!(rt; out[3], OLD);
 }
 
