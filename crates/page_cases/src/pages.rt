@@ -176,7 +176,7 @@ fn a_page_takes_fifty_thousand_rows(rt: HostRuntime) -> Result<(), Fail> {
     );
     assert_eq!(rt;
         &buf.as_slice()[1_800_000..1_800_037],
-        b"=50000      50000  1        208   0\n#"
+        b"=50000      50000  1        208   0\n#".as_slice()
     );
     Ok(())
 }

@@ -52,7 +52,7 @@ fn a_page_without_room_for_its_foot_is_refusal_11(rt: HostRuntime) -> Result<(),
         Printed::Page(_) => Err(Fail::new("a page of 35 bytes")),
         Printed::Refusal(line) => {
             let line: &[u8] = &line;
-            assert!(rt; line == b"    11     3     0     0\n");
+            assert!(rt; line == b"    11     3     0     0\n".as_slice());
             Ok(())
         }
     }
