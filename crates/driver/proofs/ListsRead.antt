@@ -1,12 +1,12 @@
 -- What a list that was read has: as many replies as rows.
-use Rattle.std.proofs.Common.{◌≡◌, ℕ, zero, suc, ◌+◌, ◌-◌, ◌/◌, ◌%◌, ◌<◌, ◌≤◌, min, Bool, true, false, ◌&&◌, eqb, leb, ◌⊎◌, List, [], ◌∷◌, ◌++◌, length, take, drop, Some, None, Ok, Err, Option, Result, sym, refl, ap, ◌∙◌, subst, inl, inr, arith}
+use Rattle.std.proofs.Common.{◌≡◌, ℕ, zero, suc, ◌+◌, ◌-◌, ◌/◌, ◌%◌, ◌≤◌, min, ◌&&◌, eqb, leb, List, [], ◌∷◌, ◌++◌, length, take, drop, Some, None, Ok, Err, Option, Result, sym, refl, ap, ◌∙◌, inl, inr, arith}
 use Rattle.std.proofs.lemmas.List.{length_push, take_at, take_all}
 use Rattle.std.proofs.lemmas.Bool.{cases_Bool, and_parts, leb-true}
 use Rattle.source.specs.declared.reply.Reply.{Reply}
 use Rattle.rows.specs.declared.fault.Numbered.{Numbered}
 use Rattle.rows.specs.declared.fault.RowFault.{RowFault}
 use Rattle.text.specs.declared.fault.FileFault.{FileFault}
-use Rattle.text.specs.declared.fault.FileFault.TheVariants.{Row, Size}
+use Rattle.text.specs.declared.fault.FileFault.TheVariants.{Size}
 use Rattle.text.specs.Files.{Reading, row_count, ending, on_row, read_rows, answer_of, left_of}
 use Rattle.text.specs.Pairs.{pair_answer}
 use Rattle.text.specs.Lists.{reply_read, last_asked, onto, list_step, list_answer, list_read, over}

@@ -1,5 +1,5 @@
 -- The gate that a job opens.
-use Rattle.std.proofs.Common.{◌≡◌, ℕ, true, false, ◌&&◌, leb, ◌⊎◌, List, take, drop, Ok, Err, sum, Result, sym, refl, ap, ◌∙◌, subst, inl, inr, arith, Bor}
+use Rattle.std.proofs.Common.{◌≡◌, ℕ, ◌&&◌, leb, List, take, drop, Ok, Err, sum, Result, refl, ap, ◌∙◌, subst, inl, inr, arith, Bor}
 use Rattle.std.proofs.lemmas.Bool.{cases_Bool}
 use Rattle.source.specs.declared.reply.Reply.{Reply}
 use Rattle.source.specs.declared.reply.End.TheVariants.{Dry}

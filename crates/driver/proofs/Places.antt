@@ -1,10 +1,10 @@
 -- The place of a refusal fits its line: the row is one of the file, and the field one of the row.
-use Rattle.std.proofs.Common.{◌≡◌, ℕ, zero, suc, ◌+◌, ◌<◌, ◌≤◌, min, Bool, true, false, ◌&&◌, leb, ◌⊎◌, List, [], ◌∷◌, ◌++◌, length, take, drop, Some, None, Ok, Err, Option, Result, sym, refl, ap, ◌∙◌, subst, inl, inr, arith}
+use Rattle.std.proofs.Common.{◌≡◌, ℕ, zero, suc, ◌+◌, ◌<◌, ◌≤◌, min, ◌&&◌, leb, ◌⊎◌, List, [], ◌∷◌, length, take, drop, Some, None, Ok, Err, Option, Result, sym, refl, ap, ◌∙◌, subst, inl, inr, arith}
 use Rattle.std.proofs.lemmas.Bool.{cases_Bool}
 use Rattle.source.specs.declared.reply.Reply.{Reply}
 use Rattle.pace.specs.declared.fault.StepFault.{StepFault}
 use Rattle.pace.specs.declared.fault.StepFault.TheVariants as step
-use Rattle.pace.specs.Steps.{has_step, add_answer, no_steps}
+use Rattle.pace.specs.Steps.{has_step, no_steps}
 use Rattle.rows.specs.declared.field.FieldFault.{FieldFault}
 use Rattle.rows.specs.declared.field.FieldFault.TheVariants.{Form, Limit}
 use Rattle.rows.specs.declared.fault.Numbered.{Numbered}
@@ -14,21 +14,19 @@ use Rattle.text.specs.declared.fault.FileFault.{FileFault}
 use Rattle.text.specs.declared.fault.FileFault.TheVariants.{Row, Size}
 use Rattle.text.specs.declared.pair.NoStep.{NoStep}
 use Rattle.rows.specs.Columns.{Shape, list_row, schedule_row}
-use Rattle.rows.specs.Rows.{column_read, ended, before, on_field, row_read}
+use Rattle.rows.specs.Rows.{column_read, ended, on_field, row_read}
 use Rattle.text.specs.Files.{Reading, row_count, ending, on_row, read_rows, answer_of, file_answer}
-use Rattle.text.specs.Lists.{reply_of, ordered, reply_from, last_asked, onto, list_step, list_answer, list_read}
-use Rattle.text.specs.Schedules.{stepped, step_from, schedule_step, schedule_answer, schedule_read}
-use Rattle.text.specs.Pairs.{pair_from, pair_answer}
+use Rattle.text.specs.Lists.{reply_of, ordered, reply_from, last_asked, onto, list_step, list_read}
+use Rattle.text.specs.Schedules.{stepped, step_from, schedule_step, schedule_read}
+use Rattle.text.specs.Pairs.{pair_from}
 use Rattle.pace.specs.Refusals.{step_fault_number}
 use Rattle.rows.specs.Faults.{field_fault_number}
 use Rattle.text.specs.Refusals.{row_refusal, refusal_of}
-use Rattle.tally.specs.declared.line.PageFault.{PageFault}
-use Rattle.tally.specs.declared.line.PageFault.TheVariants.{Class, Order as Late, Room}
 use Rattle.driver.specs.declared.job.Place.{Place}
 use Rattle.driver.specs.declared.job.JobFault.{JobFault}
 use Rattle.driver.specs.declared.job.JobFault.TheVariants as fault
 use Rattle.driver.specs.Jobs.{place_in, place_of, Refused}
-use Rattle.driver.proofs.ListsRead.{Listed, listed, count_within, count_refused}
+use Rattle.driver.proofs.ListsRead.{listed, count_within, count_refused}
 
 -- the field that a row's fault names, or 0
 abbrev field_in : RowFault → ℕ

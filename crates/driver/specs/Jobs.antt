@@ -21,7 +21,6 @@ use Rattle.text.specs.Refusals.{refusal_of}
 use Rattle.text.specs.Lists.{list_answer, list_read}
 use Rattle.text.specs.Schedules.{schedule_answer, schedule_read}
 use Rattle.text.specs.Pairs.{pair_answer, no_step_refusal}
-use Rattle.tally.specs.declared.line.PageFault.{PageFault}
 use Rattle.tally.specs.declared.line.PageFault.TheVariants.{Room}
 use Rattle.tally.specs.Refusals.{page_number}
 use Rattle.driver.specs.declared.replay.Replayed.{Replayed}

@@ -1,9 +1,9 @@
 -- A ledger's table: the misses and releases of its rows, one by one and summed.
-use Rattle.std.proofs.Common.{◌≡◌, ℕ, zero, suc, ◌+◌, ◌-◌, ◌*◌, ◌^◌, ◌<◌, ◌≤◌, ◌⊎◌, List, [], ◌∷◌, map, length, get_or, set, sum_by, sum, sym, refl, ap, ◌∙◌, subst, inl, inr, mul-suc, arith, get_or-set_other, get_or-set_same}
-use lib.ListN.{length-map, get_or-map, get_or-eq_default}
+use Rattle.std.proofs.Common.{◌≡◌, ℕ, ◌+◌, ◌-◌, ◌*◌, ◌^◌, ◌<◌, ◌≤◌, List, length, get_or, set, sum, sym, ap, ◌∙◌, inl, inr, arith, get_or-set_other, get_or-set_same}
+use lib.ListN.{length-map, get_or-map}
 use lib.Seq.{map-set}
-use Rattle.std.proofs.lemmas.List.Sums.{get_or-le-sum_by, sum-map, sum_by-cons, sum_by-set}
-use Rattle.std.proofs.lemmas.Bool.{cases_lt, cases_eq}
+use Rattle.std.proofs.lemmas.List.Sums.{sum-map, sum_by-set}
+use Rattle.std.proofs.lemmas.Bool.{cases_eq}
 use Rattle.promise.specs.declared.release.Settled.{Settled}
 use Rattle.gate.specs.declared.row.Row.{Row}
 use Rattle.gate.specs.Rows.{no_row, misses_at, misses_in, releases_in}

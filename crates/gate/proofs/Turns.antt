@@ -1,5 +1,5 @@
 -- The prediction loop, turn by turn: what settles from where it stands settles from where it began.
-use Rattle.std.proofs.Common.{◌≡◌, ℕ, zero, suc, ◌+◌, ◌-◌, ◌*◌, ◌^◌, ◌<◌, ◌≤◌, min, sym, refl, ap, ◌∙◌, subst, add-zero, mul-le-mul_left, arith, pow_pos}
+use Rattle.std.proofs.Common.{◌≡◌, ℕ, suc, ◌+◌, ◌<◌, ◌≤◌, subst, add-zero, arith}
 use Rattle.source.specs.Replies.{horizon}
 use Rattle.promise.specs.Rules.{Rules, Laws}
 use Rattle.promise.specs.Predictions.{predict, Settles, Passes}

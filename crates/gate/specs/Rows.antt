@@ -1,7 +1,7 @@
 -- The rows of a ledger, read by class. Nothing is assumed.
 --   misses_at     the misses of one class
 --   misses_in     the misses of the classes in order; releases_in, their releases
-use Rattle.std.specs.Prelude.{ℕ, List, map, replicate, slice_index_or}
+use Rattle.std.specs.Prelude.{ℕ, List, map, slice_index_or}
 use Rattle.gate.specs.declared.row.Row.{Row}
 
 abbrev pub no_row : Row

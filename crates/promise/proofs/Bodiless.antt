@@ -1,5 +1,5 @@
 -- A run with its bodies left out is a run, with the same release list and miss record.
-use Rattle.std.proofs.Common.{◌≡◌, ℕ, ◌-◌, List, [], ◌∷◌, map, Some, None, Ok, Err, Option, sym, refl, ap, ◌∙◌, subst}
+use Rattle.std.proofs.Common.{◌≡◌, ℕ, ◌-◌, List, [], ◌∷◌, map, Some, None, Ok, Err, Option, sym, refl, ap, ◌∙◌}
 use Rattle.source.specs.declared.reply.Reply.{Reply}
 use Rattle.source.specs.declared.reply.End.{End}
 use Rattle.source.specs.Replies.{Lawful, LawfulFrom}
@@ -8,7 +8,7 @@ use Rattle.promise.specs.declared.event.Event.TheVariants.{Head, Lapses, Take, M
 use Rattle.promise.specs.declared.release.Settled.{Settled}
 use Rattle.promise.specs.Rules.{Rules}
 use Rattle.promise.specs.Views.{View, all, opened, settled, release_by, release_from, reply_of, misses_of, next_by, next_from}
-use Rattle.promise.specs.Runs.{Turn, Took, Declined, Looked, Step, Runs, Call, Answers, after, turn, replies, replies_by, ticks_of, release_list, miss_record, record_by}
+use Rattle.promise.specs.Runs.{Turn, Took, Declined, Looked, Step, Runs, Answers, after, turn, replies, replies_by, ticks_of, release_list, miss_record, record_by}
 use Rattle.promise.specs.Bodies.{bare, bare_view, bare_answer, bare_event, bare_step}
 use Rattle.promise.specs.Promise.{Bodiless, key_of, keys_of}
 

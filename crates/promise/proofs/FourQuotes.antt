@@ -1,11 +1,11 @@
 -- The gates of four quotes: their lists, worked out.
-use Rattle.std.proofs.Common.{◌≡◌, ℕ, zero, suc, ◌≤◌, List, [], ◌∷◌, get_or, take, replicate, sym, refl, ap, ◌∙◌, subst, le_refl, arith}
+use Rattle.std.proofs.Common.{◌≡◌, ℕ, zero, suc, ◌≤◌, List, [], ◌∷◌, get_or, take, replicate, refl, ap, ◌∙◌, subst, le_refl, arith}
 use native.Mathlib.Nat.{min-le_right}
 use Rattle.source.specs.declared.reply.Reply.{Reply}
 use Rattle.source.specs.declared.reply.End.TheVariants.{Dry}
 use Rattle.source.specs.Replies.{Lawful, beginning}
 use Rattle.source.specs.Beginnings.{beginning_lawful}
-use Rattle.promise.specs.Rules.{Rules, Laws, Alike}
+use Rattle.promise.specs.Rules.{Laws}
 use Rattle.promise.specs.Views.{settled}
 use Rattle.promise.specs.Runs.{run}
 use Rattle.promise.specs.Promise.{keys_of, Seen, up_to}

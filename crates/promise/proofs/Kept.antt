@@ -1,6 +1,6 @@
 -- The promise is kept: from any start on, and so from an opening.
-use Rattle.std.proofs.Common.{◌≡◌, ℕ, zero, suc, ◌+◌, ◌-◌, ◌*◌, ◌^◌, ◌<◌, ◌≤◌, true, false, ◌↔◌, List, [], ◌∷◌, map, length, sym, refl, ap, ◌∙◌, subst, mul-one, arith}
-use native.Mathlib.Nat.{mul-sub, pow-zero}
+use Rattle.std.proofs.Common.{◌≡◌, ℕ, suc, ◌+◌, ◌-◌, ◌*◌, ◌^◌, ◌≤◌, true, ◌↔◌, List, length, sym, refl, ap, ◌∙◌, subst, mul-one, arith}
+use native.Mathlib.Nat.{mul-sub}
 use Rattle.source.specs.declared.reply.Reply.{Reply}
 use Rattle.source.specs.declared.reply.End.{End}
 use Rattle.source.specs.Replies.{horizon, Lawful}
@@ -8,9 +8,9 @@ use Rattle.promise.specs.Rules.{Rules, Laws, Alike}
 use Rattle.promise.specs.Leaks.{Most, share, over}
 use Rattle.promise.specs.Views.{Standing, View, own, all, fresh, opened, released}
 use Rattle.promise.specs.Runs.{Step, Runs, replies, release_list, miss_record, takes, left}
-use Rattle.promise.specs.Promise.{Key, keys_of, Freed, All, Different, Faithful, Seen, Promise, occurs, up_to}
+use Rattle.promise.specs.Promise.{Key, keys_of, Freed, All, Different, Seen, Promise, occurs, up_to}
 use Rattle.promise.proofs.Sums.{sum_from, sum_from_is}
-use Rattle.promise.proofs.Standings.{Sound, Start, weight, sound_start, start_fresh, none_at}
+use Rattle.promise.proofs.Standings.{Start, weight, sound_start, start_fresh, none_at}
 use Rattle.promise.proofs.Running.{Known, Outcome, outcome, known_lawful, tallied}
 use Rattle.promise.proofs.Listing.{listed}
 use Rattle.promise.proofs.Bodiless.{bodiless}

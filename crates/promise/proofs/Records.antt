@@ -1,5 +1,5 @@
 -- Every list of at most m numbers with a sum of at most s: they number at most (m + 1)^(s + 1).
-use Rattle.std.proofs.Common.{◌≡◌, ℕ, zero, suc, ◌+◌, ◌*◌, ◌^◌, ◌<◌, ◌≤◌, ◌⊎◌, List, [], ◌∷◌, ◌++◌, map, length, sum, sym, refl, ap, ◌∙◌, subst, inl, inr, mul-le-mul_right, pow-suc, arith}
+use Rattle.std.proofs.Common.{◌≡◌, ℕ, zero, suc, ◌+◌, ◌*◌, ◌^◌, ◌≤◌, List, [], ◌∷◌, ◌++◌, map, length, sum, refl, ◌∙◌, subst, inl, inr, mul-le-mul_right, pow-suc, arith}
 use native.Mathlib.Nat.{pow-zero, pow-le-pow_left}
 use Rattle.std.proofs.lemmas.List.{length-map, length-append}
 use Rattle.std.proofs.lemmas.List.Sums.{sum_by-cons}

@@ -1,5 +1,5 @@
 -- Every list of requests has a run, and only one.
-use Rattle.std.proofs.Common.{◌≡◌, List, [], ◌∷◌, map, sym, refl, ap, ◌∙◌, subst}
+use Rattle.std.proofs.Common.{◌≡◌, List, [], ◌∷◌, map, refl, ap, ◌∙◌}
 use Rattle.promise.specs.declared.event.Event.{Event}
 use Rattle.promise.specs.declared.event.Event.TheVariants.{Head, Lapses, Take, Misses, Clock, Released}
 use Rattle.promise.specs.declared.event.Request.{Request}

@@ -1,5 +1,5 @@
 -- From a list of calls to the replies taken: what a run leaves, from any start on.
-use Rattle.std.proofs.Common.{◌≡◌, ℕ, zero, suc, ◌+◌, ◌-◌, ◌*◌, ◌^◌, ◌<◌, ◌≤◌, eqb, ◌⊎◌, List, [], ◌∷◌, length, get_or, take, drop, set, Some, sym, refl, ap, ◌∙◌, subst, inl, inr, arith}
+use Rattle.std.proofs.Common.{◌≡◌, ℕ, zero, suc, ◌+◌, ◌-◌, ◌<◌, ◌≤◌, eqb, List, [], ◌∷◌, length, take, drop, sym, refl, ap, ◌∙◌, subst, inl, inr, arith}
 use Rattle.std.proofs.lemmas.Bool.{cases_eq, eq-eqb, ne_eqb}
 use Rattle.std.proofs.lemmas.List.{get_or-set_same, get_or-set_other}
 use Rattle.source.specs.declared.reply.Reply.{Reply}
@@ -8,8 +8,8 @@ use Rattle.promise.specs.declared.release.Settled.{Settled}
 use Rattle.promise.specs.Rules.{Rules, Laws}
 use Rattle.promise.specs.Leaks.{share}
 use Rattle.promise.specs.Views.{Standing, View, own, all, charged, moved, released, SettlesAt}
-use Rattle.promise.specs.Runs.{Turn, Took, Declined, Looked, Step, Runs, turn, replies, replies_by, ticks_of, release_list, miss_record, record_by, takes, takes_by, left}
-use Rattle.promise.specs.Promise.{Freed, All, Tallied, stands, last_or, record_of}
+use Rattle.promise.specs.Runs.{Turn, Took, Declined, Looked, Step, Runs, turn, replies, replies_by, ticks_of, miss_record, record_by, takes, takes_by, left}
+use Rattle.promise.specs.Promise.{Freed, All, Tallied, last_or, record_of}
 use Rattle.promise.proofs.Sums.{sum_set}
 use Rattle.promise.proofs.Settling.{settles_ready}
 use Rattle.promise.proofs.Standings.{Sound, sound_charged, settled_settles}

@@ -1,10 +1,10 @@
 -- Release ticks as a function of what is public and of the misses alone.
-use Rattle.std.proofs.Common.{◌≡◌, ℕ, zero, suc, ◌+◌, ◌<◌, ◌≤◌, List, [], ◌∷◌, map, length, sym, refl, ap, ◌∙◌, subst, arith}
+use Rattle.std.proofs.Common.{◌≡◌, ℕ, zero, suc, ◌+◌, ◌<◌, ◌≤◌, List, [], ◌∷◌, length, sym, refl, ap, ◌∙◌, subst, arith}
 use Rattle.source.specs.declared.reply.Reply.{Reply}
 use Rattle.source.specs.Replies.{horizon}
 use Rattle.promise.specs.Rules.{Rules, Laws, Alike}
 use Rattle.promise.specs.Predictions.{predict, Settles}
-use Rattle.promise.specs.Views.{Standing, own, all, base, charged, SettlesAt}
+use Rattle.promise.specs.Views.{Standing, own, all, base, charged}
 use Rattle.promise.specs.Runs.{ticks_of}
 use Rattle.promise.specs.Promise.{Key, key_of, keys_of, Freed, All, stands}
 use Rattle.promise.proofs.Settling.{wait_some}

@@ -1,7 +1,7 @@
 -- Gates and their calls with the bodies left out, so that gates with other kinds of body can be compared.
 -- Nothing is assumed.
 --   bare       a reply without its body; likewise of a view, an answer, a call and a step
-use Rattle.std.specs.Prelude.{List, map, Ok, Err, Result}
+use Rattle.std.specs.Prelude.{map, Ok, Err, Result}
 use Rattle.source.specs.declared.reply.Reply.{Reply}
 use Rattle.source.specs.declared.reply.End.{End}
 use Rattle.promise.specs.declared.event.Event.{Event}

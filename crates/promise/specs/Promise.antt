@@ -6,7 +6,7 @@
 --   Bodiless   a run with the bodies left out is a run with the same release list and miss record
 --   Seen       a release list up to a tick that some calls of some gate opened alike leave
 --   Promise    all of it, of a gate that is opened
-use Rattle.std.specs.Prelude.{◌≡◌, ℕ, suc, ◌+◌, ◌-◌, ◌*◌, ◌^◌, ◌≤◌, Bool, true, false, ◌||◌, ◌↔◌, List, [], ◌∷◌, map, length, take, drop, ◌==◌, ◌≢◌, nat_le}
+use Rattle.std.specs.Prelude.{◌≡◌, ℕ, ◌+◌, ◌-◌, ◌*◌, ◌^◌, ◌≤◌, Bool, true, false, ◌||◌, ◌↔◌, List, [], ◌∷◌, map, length, take, drop, ◌==◌, ◌≢◌, nat_le}
 use Rattle.source.specs.declared.reply.Reply.{Reply}
 use Rattle.source.specs.declared.reply.End.{End}
 use Rattle.source.specs.Replies.{horizon, Lawful}

@@ -1,8 +1,7 @@
 -- Rows that a page took, accounted for one after another.
-use Rattle.std.proofs.Common.{◌≡◌, ℕ, zero, suc, ◌+◌, ◌*◌, ◌<◌, ◌≤◌, List, [], ◌∷◌, length, get_or, drop, sym, refl, ap, ◌∙◌, subst, arith}
+use Rattle.std.proofs.Common.{◌≡◌, ℕ, ◌+◌, ◌<◌, ◌≤◌, List, ◌∷◌, length, get_or, drop, sym, ap, ◌∙◌, subst, arith}
 use Rattle.std.proofs.lemmas.List.{drop_more, drop_all}
 use Rattle.tally.specs.declared.line.PageRow.{PageRow}
-use Rattle.tally.specs.declared.line.PageFault.{PageFault}
 use Rattle.tally.specs.declared.account.Tally.{Tally}
 use Rattle.tally.specs.Tallies.{taken, counted}
 use Rattle.reader.specs.PageFiles.{Fits}

@@ -1,19 +1,17 @@
 -- Pages as files of lines: what is shown is read, and what is read was shown and fits.
-use Rattle.std.proofs.Common.{◌≡◌, ℕ, zero, suc, ◌+◌, ◌-◌, ◌*◌, ◌<◌, ◌≤◌, List, [], ◌∷◌, ◌++◌, map, length, take, drop, Some, None, Ok, Err, Option, Result, sym, refl, ap, ◌∙◌, subst, append_assoc, mul-zero, mul-suc, arith, length-append}
+use Rattle.std.proofs.Common.{◌≡◌, ℕ, zero, suc, ◌+◌, ◌*◌, ◌≤◌, List, [], ◌∷◌, ◌++◌, map, length, take, drop, Ok, Err, Result, sym, refl, ap, ◌∙◌, subst, append_assoc, mul-suc, arith}
 use Rattle.std.specs.List.{flat_map}
-use Rattle.std.proofs.lemmas.List.{append-nil, take-take, drop-take, length-map}
-use Rattle.rows.specs.declared.fault.Numbered.{Numbered}
+use Rattle.std.proofs.lemmas.List.{append-nil, take-take, drop-take}
 use Rattle.rows.specs.declared.fault.RowFault.{RowFault}
 use Rattle.rows.specs.Columns.{page_row}
 use Rattle.rows.proofs.RowLaws.{length_row}
 use Rattle.text.specs.Files.{Reading, on_row, read_rows}
-use Rattle.text.proofs.FileLaws.{Kind, put_all, FitAll, file_back, file_only, length_file}
+use Rattle.text.proofs.FileLaws.{Kind, put_all, FitAll}
 use Rattle.tally.specs.declared.line.PageRow.{PageRow}
 use Rattle.tally.specs.declared.account.Tally.{Tally}
-use Rattle.tally.specs.Tallies.{begun, taken, counted, tallied}
-use Rattle.tally.proofs.Bounding.{rows_counted}
+use Rattle.tally.specs.Tallies.{begun, taken, tallied}
 use Rattle.page.specs.Pages.{row_bytes}
-use Rattle.reader.specs.PageFiles.{rows_shown, Fits, line_read, onto, page_step, reading}
+use Rattle.reader.specs.PageFiles.{rows_shown, Fits, line_read, onto, page_step}
 use Rattle.reader.proofs.Turns.{Takes, line_only, line_back, page_sound, takes_within, line_numbers}
 use Rattle.reader.proofs.PageReading.{counted_push}
 

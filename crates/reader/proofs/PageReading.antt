@@ -1,21 +1,16 @@
 -- Reading rows of a page into a buffer: those read stand at its front, the rest is as it was, and the account is theirs.
-use Rattle.std.proofs.Common.{◌≡◌, ℕ, ◌+◌, ◌*◌, ◌<◌, ◌≤◌, Bool, true, false, ◌&&◌, eqb, ltb, leb, ◌⊎◌, List, [], ◌∷◌, ◌++◌, length, get_or, take, drop, set, Some, None, Ok, Err, Result, sym, refl, ap, ◌∙◌, subst, inl, inr, arith}
+use Rattle.std.proofs.Common.{◌≡◌, ℕ, ◌+◌, ◌*◌, ◌<◌, ◌≤◌, List, [], ◌∷◌, ◌++◌, length, take, drop, set, Ok, Err, sym, refl, ap, ◌∙◌, arith}
 use Rattle.std.proofs.lemmas.List.{drop-drop, drop-set-lt, length-take-le, take-append-drop, take_more_set}
-use Rattle.std.proofs.lemmas.Bool.{cases_Bool, and_parts, and_from, le-leb, lt-ltb}
 use Rattle.rows.specs.declared.fault.RowFault.{RowFault}
-use Rattle.rows.specs.declared.fault.RowFault.TheVariants.{Order}
-use Rattle.rows.specs.Columns.{page_row}
-use Rattle.rows.specs.Rows.{row_read}
-use Rattle.rows.proofs.RowLaws.{row_shown_is}
 use Rattle.text.specs.declared.fault.FileFault.TheVariants.{Row}
-use Rattle.text.specs.Files.{Reading, ending, read_rows}
+use Rattle.text.specs.Files.{Reading, ending}
 use Rattle.text.specs.Lists.{over}
 use Rattle.text.proofs.FileReading.{ReadTo, read_none, read_more, read_stops, read_all}
 use Rattle.tally.specs.declared.line.PageRow.{PageRow}
 use Rattle.tally.specs.declared.account.Tally.{Tally}
-use Rattle.tally.specs.Tallies.{begun, taken, counted, tallied, orderly, roomy, verdict, row_answer}
+use Rattle.tally.specs.Tallies.{begun, taken, counted, tallied}
 use Rattle.tally.proofs.Bounding.{rows_counted}
-use Rattle.reader.specs.PageFiles.{row_of, in_turn, turn_from, line_read, onto, page_step, reading}
+use Rattle.reader.specs.PageFiles.{line_read, onto, page_step, reading}
 
 pub counted_push : (t : Tally) (rs : List PageRow) (r : PageRow) → counted t (rs ++ r ∷ []) ≡ taken (counted t rs) r
 counted_push t [] r = refl

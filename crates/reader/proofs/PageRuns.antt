@@ -1,8 +1,7 @@
 -- What a page's calls leave in its buffer is the page of the rows it took.
-use Rattle.std.proofs.Common.{◌≡◌, ℕ, zero, suc, ◌+◌, ◌-◌, ◌*◌, ◌<◌, ◌≤◌, Bool, true, false, ◌&&◌, ltb, leb, List, [], ◌∷◌, ◌++◌, length, take, drop, set, Ok, Err, count_by, Result, sym, refl, ap, ◌∙◌, subst, append_assoc, arith, length-append, length-drop}
+use Rattle.std.proofs.Common.{◌≡◌, ℕ, suc, ◌+◌, ◌*◌, ◌<◌, ◌≤◌, Bool, true, List, [], ◌∷◌, ◌++◌, length, take, drop, Ok, Err, Result, sym, refl, ap, ◌∙◌, subst, append_assoc, arith, length-append}
 use Rattle.std.proofs.lemmas.List.{append-nil, take_at, length-take-le, length-set}
 use Rattle.std.proofs.lemmas.List.Sums.{count_by-le-length}
-use Rattle.std.proofs.lemmas.Bool.{and_parts, leb-true, ltb-true}
 use Rattle.rows.proofs.RowLaws.{length_row}
 use Rattle.rows.specs.Columns.{page_row, foot_row}
 use Rattle.rows.specs.Rows.{Within}
@@ -10,8 +9,7 @@ use Rattle.text.specs.declared.fault.FileFault.{FileFault}
 use Rattle.tally.specs.declared.line.PageRow.{PageRow}
 use Rattle.tally.specs.declared.line.PageFault.{PageFault}
 use Rattle.tally.specs.declared.account.Tally.{Tally}
-use Rattle.tally.specs.Bits.{count}
-use Rattle.tally.specs.Tallies.{begun, taken, counted, tallied, orderly, roomy, verdict, row_answer, foot_of}
+use Rattle.tally.specs.Tallies.{begun, taken, counted, tallied, row_answer, foot_of}
 use Rattle.tally.proofs.Judging.{taken_parts}
 use Rattle.page.specs.Pages.{row_bytes, foot_bytes, lined, RowLeaves}
 use Rattle.page.proofs.Lines.{lined_length}

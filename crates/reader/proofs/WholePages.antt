@@ -1,20 +1,16 @@
 -- Whole pages: the rows and the foot.
-use Rattle.std.proofs.Common.{◌≡◌, ℕ, zero, suc, ◌+◌, ◌-◌, ◌*◌, ◌/◌, ◌%◌, ◌<◌, ◌≤◌, min, Bool, true, false, ◌&&◌, eqb, leb, ◌⊎◌, List, [], ◌∷◌, ◌++◌, map, length, take, drop, Some, None, Ok, Err, Option, Result, sym, refl, ap, ◌∙◌, subst, inl, inr, arith, length-append}
+use Rattle.std.proofs.Common.{◌≡◌, ℕ, ◌+◌, ◌-◌, ◌*◌, ◌≤◌, List, [], ◌++◌, length, take, drop, Some, None, Ok, Err, Option, sym, refl, ap, ◌∙◌, subst, arith}
 use Rattle.std.specs.List.{flat_map}
-use Rattle.std.proofs.lemmas.List.{append-nil, take_at, drop_at, take-append-drop, length-take-le, length-map}
-use Rattle.std.proofs.lemmas.Bool.{le-leb, and_from, eq-eqb}
+use Rattle.std.proofs.lemmas.List.{take_at, length-take-le, length-map}
 use Rattle.rows.specs.declared.fault.Numbered.{Numbered}
 use Rattle.rows.specs.declared.fault.RowFault.{RowFault}
 use Rattle.text.specs.declared.fault.FileFault.{FileFault}
-use Rattle.text.specs.declared.fault.FileFault.TheVariants.{Row, Size}
-use Rattle.text.specs.Files.{Reading, row_count, ending, read_rows}
+use Rattle.text.specs.Files.{Reading, ending, read_rows}
 use Rattle.text.specs.Lists.{over}
-use Rattle.text.proofs.FileLaws.{put_all, FitAll, file_back, file_only, length_file, Stopped, file_stops}
+use Rattle.text.proofs.FileLaws.{file_back, file_only, length_file, file_stops}
 use Rattle.tally.specs.declared.line.PageRow.{PageRow}
-use Rattle.tally.specs.declared.account.Tally.{Tally}
 use Rattle.tally.specs.Tallies.{begun, tallied, foot_of}
-use Rattle.page.specs.Pages.{row_bytes, foot_bytes}
-use Rattle.reader.specs.PageFiles.{rows_shown, page_shown, Fits, page_step, foot_read, foot_ending, rows_ending, page_count, reading, answer_of, read_of, page_answer, page_read}
+use Rattle.reader.specs.PageFiles.{rows_shown, Fits, page_step, foot_read, foot_ending, rows_ending, reading}
 use Rattle.reader.proofs.PageLaws.{Line, lines, lines_shown, lines_put, lines_fit, rows_of, numbered, numbered_rows, numbered_fit, read_front}
 
 module _ (opening : ℕ) where

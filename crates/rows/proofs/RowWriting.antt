@@ -5,7 +5,7 @@ use lib.ListN.{length-replicate}
 use Rattle.std.proofs.lemmas.List.{append-nil, take_at, drop_at, drop-drop, drop_all, take_all, set_split, length-take-le}
 use Rattle.rows.specs.declared.column.Column.{Column}
 use Rattle.rows.specs.Fields.{shown}
-use Rattle.rows.specs.Columns.{Shape, shape, shapes, widths}
+use Rattle.rows.specs.Columns.{shapes, widths}
 use Rattle.rows.specs.Rows.{fields_shown, row_shown}
 
 pub length_shown : (w v : ℕ) → length (decimal v) ≤ w → length (shown w v) ≡ w

@@ -1,16 +1,14 @@
 -- The bits of a foot bound the release lists that could have been seen.
-use Rattle.std.proofs.Common.{◌≡◌, ℕ, zero, suc, ◌+◌, ◌-◌, ◌*◌, ◌^◌, ◌<◌, ◌≤◌, Bool, true, false, ◌||◌, eqb, ◌⊎◌, List, [], ◌∷◌, map, length, get_or, set, sym, refl, ap, ◌∙◌, subst, inl, inr, pow-suc, mul-zero, mul-suc, arith, pow-add}
+use Rattle.std.proofs.Common.{◌≡◌, ℕ, zero, suc, ◌+◌, ◌-◌, ◌*◌, ◌^◌, ◌<◌, ◌≤◌, Bool, true, false, ◌||◌, eqb, List, [], ◌∷◌, map, length, get_or, set, sym, refl, ap, ◌∙◌, subst, inl, inr, pow-suc, mul-zero, mul-suc, arith, pow-add}
 use native.Mathlib.Nat.{pow-zero, pow-le-pow_left}
 use Rattle.std.proofs.lemmas.Bool.{cases_eq, eq-eqb, ne_eqb}
 use Rattle.std.proofs.lemmas.List.{length-set, get_or-set_same, get_or-set_other, length-map}
 use Rattle.source.specs.Replies.{horizon}
-use Rattle.promise.specs.Rules.{Rules, Laws}
-use Rattle.promise.specs.Leaks.{Most, most_of, share, over, exponent}
-use Rattle.promise.specs.Promise.{Key, Seen, All, Different, occurs}
+use Rattle.promise.specs.Leaks.{Most, most_of, share, over}
+use Rattle.promise.specs.Promise.{Key, occurs}
 use Rattle.promise.proofs.Mosts.{most_of_is}
 use Rattle.promise.proofs.Kept.{few_keys}
 use Rattle.tally.specs.declared.line.PageRow.{PageRow}
-use Rattle.tally.specs.declared.line.Foot.{Foot}
 use Rattle.tally.specs.declared.account.Tally.{Tally}
 use Rattle.tally.specs.Bits.{row_bits, occurs_in}
 use Rattle.tally.specs.Tallies.{begun, taken, counted, tallied, foot_of, row_key, Bounds}

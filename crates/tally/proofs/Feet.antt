@@ -1,5 +1,5 @@
 -- A foot from its parts.
-use Rattle.std.proofs.Common.{◌≡◌, ℕ, ◌-◌, ◌*◌, ap, ◌∙◌}
+use Rattle.std.proofs.Common.{◌≡◌, ℕ, ◌-◌, ◌*◌}
 use Rattle.promise.specs.Leaks.{exponent}
 use Rattle.tally.specs.declared.line.Foot.{Foot}
 use Rattle.tally.specs.declared.account.Tally.{Tally}

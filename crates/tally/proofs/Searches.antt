@@ -1,5 +1,5 @@
 -- The searches by doubling: how far they get, and what they have found where they stop.
-use Rattle.std.proofs.Common.{◌≡◌, ℕ, zero, suc, ◌+◌, ◌-◌, ◌*◌, ◌^◌, ◌<◌, ◌≤◌, Bool, leb, ◌⊎◌, sym, refl, ap, ◌∙◌, subst, inl, inr, add-zero, mul-le-mul_right, mul-le-mul, arith, pow_pos, pow_mono}
+use Rattle.std.proofs.Common.{◌≡◌, ℕ, zero, suc, ◌+◌, ◌-◌, ◌*◌, ◌^◌, ◌<◌, ◌≤◌, Bool, leb, sym, ap, ◌∙◌, subst, inl, inr, add-zero, mul-le-mul_right, mul-le-mul, arith, pow_mono}
 use native.Mathlib.Nat.{two-pow-succ}
 use Rattle.std.proofs.lemmas.Bool.{cases_lt, cases_Bool, leb-true, leb-false}
 use Rattle.promise.specs.Leaks.{Most, share, over}

@@ -1,12 +1,12 @@
 -- Reading a file row by row, for every kind of row: the turns of a reader's loop, and the answer at its end.
-use Rattle.std.proofs.Common.{◌≡◌, ℕ, zero, suc, ◌+◌, ◌-◌, ◌*◌, ◌<◌, ◌≤◌, List, [], ◌∷◌, length, take, drop, Some, None, Ok, Err, Option, Result, sym, refl, ap, ◌∙◌, mul-zero, mul-suc, add-one, arith}
+use Rattle.std.proofs.Common.{◌≡◌, ℕ, suc, ◌+◌, ◌-◌, ◌*◌, ◌<◌, ◌≤◌, List, length, take, drop, Some, None, Ok, Err, Option, Result, sym, ap, ◌∙◌, mul-zero, mul-suc, add-one, arith}
 use native.Mathlib.Nat.{sub-zero}
 use Rattle.std.proofs.lemmas.List.{drop-drop}
 use Rattle.rows.specs.declared.fault.Numbered.{Numbered}
 use Rattle.rows.specs.declared.fault.RowFault.{RowFault}
 use Rattle.text.specs.declared.fault.FileFault.{FileFault}
-use Rattle.text.specs.declared.fault.FileFault.TheVariants.{Row, Size}
-use Rattle.text.specs.Files.{Reading, row_count, ending, on_row, RowTaken, read_rows, answer_of, left_of, file_answer, file_read}
+use Rattle.text.specs.declared.fault.FileFault.TheVariants.{Size}
+use Rattle.text.specs.Files.{row_count, ending, on_row, RowTaken, read_rows, answer_of, left_of, file_answer, file_read}
 
 -- the bytes of one row, as the loop lends them
 pub row_part : (bytes : List ℕ) (at n : ℕ) → take (at + n - at) (drop at bytes) ≡ take n (drop at bytes)

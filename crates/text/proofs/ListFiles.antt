@@ -1,8 +1,8 @@
 -- Whole list files: what was written reads back, what reads well was written so, and what each refusal means.
-use Rattle.std.proofs.Common.{◌≡◌, ℕ, ◌+◌, ◌*◌, ◌<◌, ◌≤◌, min, List, [], ◌∷◌, ◌++◌, length, take, drop, Ok, Err, Result, sym, refl, ap, ◌∙◌, subst, append_assoc, arith}
+use Rattle.std.proofs.Common.{◌≡◌, ℕ, ◌*◌, ◌≤◌, min, List, [], ◌∷◌, ◌++◌, length, take, drop, Ok, Err, Result, sym, ap, ◌∙◌, subst, append_assoc, arith}
 use Rattle.std.proofs.lemmas.List.{append-nil}
 use Rattle.source.specs.declared.reply.Reply.{Reply}
-use Rattle.source.specs.Replies.{LawfulFrom, Lawful}
+use Rattle.source.specs.Replies.{LawfulFrom}
 use Rattle.source.specs.Beginnings.{follows_so}
 use Rattle.rows.specs.declared.fault.Numbered.{Numbered}
 use Rattle.rows.specs.declared.fault.RowFault.{RowFault}

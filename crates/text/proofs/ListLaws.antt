@@ -1,23 +1,17 @@
 -- Lists as files of rows: what is shown is read, what is read is shown and lawful, and nothing else reads as it.
-use Rattle.std.proofs.Common.{◌≡◌, ℕ, suc, ◌+◌, ◌-◌, ◌*◌, ◌/◌, ◌%◌, ◌^◌, ◌<◌, ◌≤◌, min, true, false, ◌&&◌, eqb, leb, ◌⊎◌, List, [], ◌∷◌, ◌++◌, length, get_or, take, drop, Some, None, Ok, Err, Option, Result, sym, refl, ap, ◌∙◌, subst, inl, inr, append_assoc, arith, lit<}
-use Rattle.std.proofs.lemmas.List.{append-nil}
-use Rattle.std.proofs.lemmas.Bool.{cases_lt, le-leb, leb-true, eq-eqb, eqb-true, and_from, and_parts, cases_Bool}
+use Rattle.std.proofs.Common.{◌≡◌, ℕ, ◌<◌, ◌≤◌, true, ◌&&◌, leb, ◌⊎◌, List, [], ◌∷◌, ◌++◌, Ok, Err, Result, sym, refl, ap, ◌∙◌, subst, inl, inr, arith, lit<}
+use Rattle.std.proofs.lemmas.Bool.{cases_lt, le-leb, leb-true, and_from, and_parts, cases_Bool}
 use Rattle.source.specs.declared.reply.Reply.{Reply}
-use Rattle.source.specs.Replies.{LawfulFrom, Lawful, follows}
+use Rattle.source.specs.Replies.{follows}
 use Rattle.source.specs.Beginnings.{follows_so}
-use Rattle.rows.specs.declared.fault.Numbered.{Numbered}
 use Rattle.rows.specs.declared.fault.RowFault.{RowFault}
 use Rattle.rows.specs.declared.fault.RowFault.TheVariants.{Order}
-use Rattle.text.specs.declared.fault.FileFault.{FileFault}
-use Rattle.text.specs.declared.fault.FileFault.TheVariants.{Row, Size}
-use Rattle.rows.specs.Columns.{Shape, shape, list_row}
+use Rattle.rows.specs.Columns.{list_row}
 use Rattle.rows.specs.Rows.{Within, row_read, row_shown}
-use Rattle.text.specs.Files.{Reading, row_count, ending, read_rows, answer_of, left_of}
-use Rattle.text.specs.Lists.{numbers_of, reply_shown, list_shown, reply_of, ordered, reply_from, reply_read, last_asked, onto, list_step, ReplyRefused}
+use Rattle.text.specs.Lists.{numbers_of, reply_shown, reply_of, ordered, reply_from, last_asked, onto, list_step, ReplyRefused}
 use Rattle.rows.proofs.Fitting.{AllSound, sound_shape}
 use Rattle.rows.proofs.RowLaws.{length_row, row_back, row_shown_is, first_fault}
-use Rattle.text.proofs.ListReading.{last_push}
-use Rattle.text.proofs.FileLaws.{Kind, put_all, FitAll, file_back, file_only, length_file}
+use Rattle.text.proofs.FileLaws.{Kind}
 
 pub list_sound : AllSound list_row
 list_sound = (

@@ -1,9 +1,8 @@
 -- Looking for a class without a step, row by row.
-use Rattle.std.proofs.Common.{◌≡◌, ℕ, ◌+◌, ◌<◌, ◌≤◌, min, true, false, List, [], ◌∷◌, length, get_or, take, drop, Ok, Err, Result, sym, refl, ap, ◌∙◌, arith, length-take}
+use Rattle.std.proofs.Common.{◌≡◌, ℕ, ◌+◌, ◌<◌, ◌≤◌, min, true, false, List, ◌∷◌, length, get_or, take, drop, Ok, Err, sym, refl, ap, ◌∙◌, arith, length-take}
 use Rattle.std.proofs.lemmas.List.{at_drop_more, at_drop_all, get_or-take}
 use Rattle.source.specs.declared.reply.Reply.{Reply}
 use Rattle.pace.specs.Steps.{has_step}
-use Rattle.text.specs.declared.pair.NoStep.{NoStep}
 use Rattle.text.specs.Pairs.{pair_from, pair_answer}
 
 module _ {B : Type 0} (ladders : List (List ℕ)) (rs : List (Reply B)) (n i : ℕ) where

@@ -1,9 +1,9 @@
 -- The size of a file: which sizes are accepted, as what number of rows, and how a size is refused. For every width.
-use Rattle.std.proofs.Common.{◌≡◌, ℕ, ◌+◌, ◌*◌, ◌/◌, ◌%◌, ◌<◌, ◌≤◌, true, false, ◌&&◌, eqb, leb, ◌⊎◌, Ok, Err, Result, sym, refl, ap, ◌∙◌, inl, inr, arith}
+use Rattle.std.proofs.Common.{◌≡◌, ℕ, ◌*◌, ◌/◌, ◌%◌, ◌<◌, ◌≤◌, true, false, ◌&&◌, eqb, leb, Ok, Err, Result, sym, ap, ◌∙◌, inl, inr, arith}
 use native.Mathlib.Nat.{div-add-mod, div-eq_of_eq-mul_right, mul-mod_right}
 use Rattle.std.proofs.lemmas.Bool.{le-leb, leb-true, eq-eqb, eqb-true, and_from, and_parts, cases_Bool}
 use Rattle.text.specs.declared.fault.FileFault.{FileFault}
-use Rattle.text.specs.declared.fault.FileFault.TheVariants.{Row, Size}
+use Rattle.text.specs.declared.fault.FileFault.TheVariants.{Size}
 use Rattle.text.specs.Files.{row_count}
 
 module _ (width most size : ℕ) where

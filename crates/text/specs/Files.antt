@@ -6,7 +6,7 @@
 --   file_answer   the number of rows, or the first fault
 --   file_read     the state after the rows before the first fault; a file of a wrong size changes nothing
 --   RowTaken     one row read in place
-use Rattle.std.specs.Prelude.{◌≡◌, ℕ, zero, suc, ◌+◌, ◌/◌, ◌%◌, true, false, ◌&&◌, List, [], ◌∷◌, length, take, drop, Some, None, Ok, Err, Option, Result, ◌==◌, nat_le}
+use Rattle.std.specs.Prelude.{◌≡◌, ℕ, zero, suc, ◌+◌, ◌/◌, ◌%◌, true, false, ◌&&◌, List, length, take, drop, Some, None, Ok, Err, Option, Result, ◌==◌, nat_le}
 use Rattle.rows.specs.declared.fault.Numbered.{Numbered}
 use Rattle.rows.specs.declared.fault.RowFault.{RowFault}
 use Rattle.text.specs.declared.fault.FileFault.{FileFault}

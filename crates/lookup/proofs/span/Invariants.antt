@@ -1,4 +1,3 @@
-use Rattle.lookup.specs.Lookups.{Lowest}
 use Rattle.lookup.proofs.Walks.{HighestOf}
 use Rattle.lookup.proofs.span.Given as goal
 

@@ -1,7 +1,7 @@
-use Rattle.std.proofs.Common.{◌≡◌, ℕ, ◌<◌, min, length, refl, ◌∙◌, subst, arith}
+use Rattle.std.proofs.Common.{◌≡◌, refl, ◌∙◌, subst, arith}
 use Rattle.promise.specs.Rules.{Rules}
 use Rattle.promise.specs.Runs.{Call, Played}
-use Rattle.gate.specs.Gates.{view_of, rules_in}
+use Rattle.gate.specs.Gates.{view_of}
 use Rattle.play.proofs.Playing.{playing_none, playing_more, played}
 use Rattle.play.proofs.play.Goals as goal
 

@@ -1,10 +1,10 @@
-use Rattle.std.proofs.Common.{◌≡◌, ℕ, ◌-◌, ◌*◌, ◌≤◌, List, ◌++◌, length, take, drop, Ok, Err, sym, ap, ◌∙◌, subst, arith, length-drop, take_all}
+use Rattle.std.proofs.Common.{◌≡◌, ℕ, ◌-◌, ◌*◌, List, length, take, drop, Err, sym, ap, ◌∙◌, subst, arith, length-drop, take_all}
 use Rattle.std.proofs.lemmas.Result.{err_from_is_err_and}
 use Rattle.text.specs.Lists.{over}
 use Rattle.tally.specs.declared.line.PageRow.{PageRow}
 use Rattle.tally.specs.Tallies.{begun, tallied, foot_of}
-use Rattle.reader.specs.PageFiles.{Fits, foot_read, foot_ending, answer_of, read_of, reading, rows_ending}
-use Rattle.reader.proofs.WholePages.{RowsTaken, rows_taken, stop_answer, foot_answer}
+use Rattle.reader.specs.PageFiles.{Fits, foot_read, foot_ending, answer_of, read_of, reading}
+use Rattle.reader.proofs.WholePages.{rows_taken, stop_answer, foot_answer}
 use Rattle.reader.proofs.PageAnswers.{page_exact}
 use Rattle.reader.proofs.PageRuns.{reads_back}
 use Rattle.reader.proofs.read_page.Goals as goal

@@ -1,13 +1,10 @@
-use Rattle.std.proofs.Common.{◌≡◌, ℕ, List, length, take, Ok, Err, sym, refl, ap, ◌∙◌, subst, arith}
+use Rattle.std.proofs.Common.{◌≡◌, length, Err, sym, ap, ◌∙◌, subst, arith}
 use Rattle.std.proofs.lemmas.Result.{err_from_is_err_and}
-use Rattle.source.specs.declared.reply.Reply.{Reply}
 use Rattle.pace.specs.Steps.{ladders_of, no_steps}
-use Rattle.text.specs.Lists.{list_read}
 use Rattle.text.specs.Schedules.{schedule_read}
-use Rattle.text.specs.Pairs.{pair_answer}
 use Rattle.driver.specs.declared.job.JobFault.TheVariants.{Pair}
 use Rattle.driver.specs.Jobs.{Prepares}
-use Rattle.driver.proofs.ListsRead.{Listed, listed, front, pairs}
+use Rattle.driver.proofs.ListsRead.{listed, front, pairs}
 use Rattle.driver.proofs.job.prepare.Goals as goal
 
 pub returns-in_err-pair : goal.returns-in_err-pair

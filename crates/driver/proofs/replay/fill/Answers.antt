@@ -1,4 +1,4 @@
-use Rattle.std.proofs.Common.{◌≡◌, ℕ, ◌<◌, ◌≤◌, length, Ok, sym, refl, ap, ◌∙◌, subst, arith}
+use Rattle.std.proofs.Common.{◌≡◌, ◌<◌, ◌≤◌, length, Ok, sym, ap, ◌∙◌, subst, arith}
 use lib.ListN.{length-map}
 use Rattle.gate.specs.declared.Gate.{Gate}
 use Rattle.promise.specs.declared.release.Release.{Release}
@@ -8,7 +8,7 @@ use Rattle.promise.specs.Views.{all, release, answer, next, Timely}
 use Rattle.gate.specs.Gates.{view_of, rules_in}
 use Rattle.tally.specs.Tallies.{roomy}
 use Rattle.gate.proofs.Rows.{all_few}
-use Rattle.driver.proofs.Driving.{Driven, accepted, driven_more, released_head}
+use Rattle.driver.proofs.Driving.{accepted, driven_more, released_head}
 use Rattle.driver.proofs.replay.fill.Given as given
 use Rattle.driver.proofs.replay.fill.Goals as goal
 

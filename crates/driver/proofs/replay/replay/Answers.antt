@@ -1,4 +1,4 @@
-use Rattle.std.proofs.Common.{◌≡◌, sym, ap, ◌∙◌}
+use Rattle.std.proofs.Common.{ap, ◌∙◌}
 use Rattle.promise.specs.Rules.{Rules}
 use Rattle.gate.specs.Gates.{view_of, rules_in}
 use Rattle.tally.specs.Tallies.{begun}

@@ -1,4 +1,4 @@
-use Rattle.std.proofs.Common.{◌≡◌, refl, ap}
+use Rattle.std.proofs.Common.{refl, ap}
 use Rattle.promise.specs.Views.{opened}
 use Rattle.promise.proofs.Kept.{kept}
 use Rattle.gate.proofs.Gate.open.Goals as goal

@@ -1,4 +1,4 @@
-use Rattle.std.proofs.Common.{◌≡◌, ℕ, ◌<◌, ◌≤◌, Ok, Err, sym, refl, ap, ◌∙◌, arith, length-set}
+use Rattle.std.proofs.Common.{◌≡◌, ℕ, Ok, Err, refl, ap, ◌∙◌, arith, length-set}
 use Rattle.gate.specs.declared.Gate.{Gate}
 use Rattle.promise.specs.declared.release.Release.{Release}
 use Rattle.promise.specs.Views.{base, release, reply_of}

@@ -1,4 +1,4 @@
-use Rattle.std.proofs.Common.{◌≡◌, ℕ, ◌≤◌, sym, ap, ◌∙◌, arith}
+use Rattle.std.proofs.Common.{ap, ◌∙◌, arith}
 use Rattle.promise.specs.Rules.{Rules, Laws}
 use Rattle.gate.specs.Rows.{misses_in}
 use Rattle.promise.specs.Predictions.{settle}

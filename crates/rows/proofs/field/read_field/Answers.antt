@@ -1,4 +1,4 @@
-use Rattle.std.proofs.Common.{◌≡◌, ◌-◌, ◌≤◌, [], get_or, ap, ◌∙◌, arith}
+use Rattle.std.proofs.Common.{◌-◌, [], get_or, ap, ◌∙◌, arith}
 use Rattle.rows.specs.Fields.{scan}
 use Rattle.rows.proofs.Scans.{digit_turn, space_turn, zero_turn, other_turn, end_turn, room_for_digit, one_digit_more}
 use Rattle.rows.proofs.Numerals.{no_form, past_limit, in_limit}

@@ -1,4 +1,4 @@
-use Rattle.std.proofs.Common.{◌≡◌, ◌<◌, ◌≤◌, length, drop, sym, ap, ◌∙◌, arith, length-drop}
+use Rattle.std.proofs.Common.{arith}
 use Rattle.rows.proofs.Columns.{column_short, column_whole}
 use Rattle.rows.proofs.row.read_column.Goals as goal
 

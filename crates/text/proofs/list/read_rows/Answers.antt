@@ -1,4 +1,4 @@
-use Rattle.std.proofs.Common.{◌≡◌, ◌*◌, Err, sym, ap, ◌∙◌, arith}
+use Rattle.std.proofs.Common.{◌*◌, Err, sym, ap, ◌∙◌, arith}
 use Rattle.std.proofs.lemmas.Result.{err_from_is_err_and}
 use Rattle.text.specs.declared.fault.FileFault.TheVariants.{Row}
 use Rattle.text.specs.Lists.{reply_read}

@@ -1,4 +1,4 @@
-use Rattle.std.proofs.Common.{◌≡◌, ℕ, ◌<◌, ◌≤◌, length, sum_by, sum, ap, arith}
+use Rattle.std.proofs.Common.{sum_by, ap, arith}
 use Rattle.std.proofs.lemmas.List.{drop_all}
 use Rattle.std.proofs.lemmas.List.Sums.{sum-map, sum_by-drop_more}
 use Rattle.gate.specs.declared.row.Row.{Row}

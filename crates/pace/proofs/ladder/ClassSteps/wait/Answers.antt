@@ -1,4 +1,4 @@
-use Rattle.std.proofs.Common.{◌-◌, ◌<◌, ◌∙◌, arith}
+use Rattle.std.proofs.Common.{◌<◌, ◌∙◌, arith}
 use Rattle.pace.specs.Waits.{kept_wait_at, kept_wait_past}
 use Rattle.pace.proofs.ladder.ClassSteps.wait.Goals as goal
 

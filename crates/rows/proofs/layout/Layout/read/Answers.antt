@@ -1,4 +1,4 @@
-use Rattle.std.proofs.Common.{◌≡◌, drop, Err, sym, refl, ap, ◌∙◌, inl, inr, add-zero, arith, length-set}
+use Rattle.std.proofs.Common.{◌≡◌, drop, Err, sym, ap, ◌∙◌, inl, inr, add-zero, arith, length-set}
 use lib.ListN.{length-replicate}
 use Rattle.std.proofs.lemmas.Result.{err_from_is_err_and}
 use Rattle.rows.specs.declared.fault.RowFault.TheVariants.{Field, Newline}

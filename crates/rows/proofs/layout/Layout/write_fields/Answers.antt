@@ -1,4 +1,4 @@
-use Rattle.std.proofs.Common.{◌≡◌, get_or, arith}
+use Rattle.std.proofs.Common.{get_or, arith}
 use Rattle.rows.proofs.Fitting.{column_sound, digits_fit, fits_at}
 use Rattle.rows.proofs.RowWriting.{field_room, part_length, write_turn, write_ends, newline_place}
 use Rattle.rows.proofs.layout.Layout.write_fields.Goals as goal

@@ -1,6 +1,6 @@
-use Rattle.std.proofs.Common.{◌≡◌, ℕ, sym, subst}
+use Rattle.std.proofs.Common.{sym, subst}
 use Rattle.tally.specs.declared.line.Foot.{Foot}
-use Rattle.tally.specs.Tallies.{foot_of, Bounds}
+use Rattle.tally.specs.Tallies.{Bounds}
 use Rattle.tally.proofs.Bounding.{bounds}
 use Rattle.tally.proofs.Feet.{foot_is}
 use Rattle.tally.proofs.account.Account.foot.Goals as goal
