@@ -1,11 +1,11 @@
 -- The whole job: from the bytes of a schedule and a list to the bytes printed. Nothing is assumed.
---   place_of     where a job was refused: number, file, row, field
---   job_rules    the rules of the gate: the schedule's steps, and each class counts its own misses
---   job_view     what the gate shows when it is opened at 0 over a trace of the replies
+--   place_of    where a job was refused: number, file, row, field
+--   job_rules   the rules of the gate: the schedule's steps, and each class counts its own misses
+--   job_view    what the gate shows when it is opened at 0 over a trace of the replies
 --   Ready       both texts are read, and every class of the list has a step
 --   Refused     the first refusal in order: schedule, list, pair, page
 --   JobLeaves   that refusal, or the page of that gate
---   line_of      a refusal line
+--   line_of     a refusal line
 --   Prints      what is printed for both texts
 use Rattle.std.specs.Prelude.{◌≡◌, ℕ, ◌<◌, ◌≤◌, List, [], ◌∷◌, length, take, Ok, Err, Result}
 use Rattle.source.specs.declared.reply.Reply.{Reply}

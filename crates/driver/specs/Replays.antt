@@ -1,5 +1,5 @@
 -- A gate driven onto a page. Nothing is assumed.
---   row_of      the page row of a release
+--   row_of     the page row of a release
 --   Releases   the gate lets these replies go one after another, and shows a view after the last
 --   tallied    the tally of a page with the rows of these releases; `filled`, its buffer
 --   Stops      why no further row is taken: the gate ends, or the page is full and the reply stays

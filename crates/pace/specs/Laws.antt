@@ -1,7 +1,7 @@
 -- What every pace and every penalty rule keeps, and what a pace answers. Nothing is assumed.
---   PaceLaws        a quantum from 1 to 1,000,000; a wait of at least quantum × 2^epoch, or past the horizon, and
---                   at most one past the horizon
---   PenaltyLaw      an epoch from the class's own misses to all misses
+--   PaceLaws         a quantum from 1 to 1,000,000; a wait of at least quantum × 2^epoch, or past the horizon, and
+--                    at most one past the horizon
+--   PenaltyLaw       an epoch from the class's own misses to all misses
 --   quantum_answer   the quantum of a class, or the refusal of a class above 7; wait_answer likewise
 use Rattle.std.specs.Prelude.{ℕ, ◌*◌, ◌^◌, ◌≤◌, min, true, false, Ok, Err, Result, nat_le}
 use Rattle.pace.specs.declared.fault.UnknownClass.{UnknownClass}

@@ -1,11 +1,11 @@
 -- A pace by steps: what it answers, and which steps it takes. Nothing is assumed.
---   ladder         the steps of one class, from its wait at epoch 0 on
+--   ladder          the steps of one class, from its wait at epoch 0 on
 --   ladders_of      the ladders of the classes 0 to 7
---   doubled        a wait doubled so many times, and at most one past the horizon
+--   doubled         a wait doubled so many times, and at most one past the horizon
 --   steps_quantum   the first step, or 1,000,000 without one
 --   steps_wait      the step at the epoch; past the last step, that one doubled for each epoch more
 --   add_answer      whether a step is taken, or why it is refused: its class, its range, its order
---   added          the ladders with one more step at the end of a class's
+--   added           the ladders with one more step at the end of a class's
 use Rattle.std.specs.Prelude.{ℕ, ◌-◌, ◌*◌, ◌^◌, min, Bool, true, false, ◌&&◌, ltb, List, [], ◌∷◌, ◌++◌, map, length, get_or, take, replicate, Ok, Err, Result, ◌==◌, nat_le, nat_lt, slice_index, slice_index_or, slice_set}
 use Rattle.pace.specs.declared.fault.StepFault.{StepFault}
 use Rattle.pace.specs.declared.fault.StepFault.TheVariants.{Class, Range, Order}

@@ -1,5 +1,5 @@
 // The penalty rules.
-ghost use Rattle.std.proofs.Common.{rules};
+ghost use Rattle.std.proofs.Common.{le_refl};
 
 use super::Penalty;
 
@@ -10,7 +10,7 @@ pub struct OwnRule;
 impl Penalty for OwnRule {
     ghost rule = { λ _ own all. own };
 
-    ghost lawful = { Prim.search rules };
+    ghost lawful = { λ _ own all part. (le_refl own, part) };
 
     fn epoch(&self, own: u32, _all: u32) -> u32 {
         own
@@ -24,7 +24,7 @@ pub struct SharedRule;
 impl Penalty for SharedRule {
     ghost rule = { λ _ own all. all };
 
-    ghost lawful = { Prim.search rules };
+    ghost lawful = { λ _ own all part. (part, le_refl all) };
 
     fn epoch(&self, _own: u32, all: u32) -> u32 {
         all

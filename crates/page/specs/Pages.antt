@@ -1,5 +1,5 @@
 -- Pages: what a row and a foot look like, and what each call leaves. Nothing is assumed.
---   row_bytes    the bytes of a row; `foot_bytes`, those of the foot
+--   row_bytes   the bytes of a row; `foot_bytes`, those of the foot
 --   lined       a buffer with one of its lines of 36 bytes replaced
 --   RowLeaves   what a row leaves of the page and the buffer; `CloseLeaves`, what closing leaves
 use Rattle.std.specs.Prelude.{◌≡◌, ℕ, ◌+◌, ◌*◌, ◌<◌, ◌≤◌, List, [], ◌∷◌, ◌++◌, length, take, drop, Ok, Err, Result}

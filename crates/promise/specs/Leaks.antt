@@ -1,6 +1,6 @@
 -- How much timing can tell: the numbers that bound the release lists. Nothing is assumed.
 --   Most       the largest number of misses that a class with some quantum can have in so many ticks
---   most_of     the same, computed, for spans up to the horizon
+--   most_of    the same, computed, for spans up to the horizon
 --   over       a sum over the classes that occur
 --   exponent   one more than the sum of the most misses over the classes that occur
 use Rattle.std.specs.Prelude.{ℕ, zero, suc, ◌+◌, ◌-◌, ◌*◌, ◌^◌, ◌≤◌, Bool, true, false, nat_le}

@@ -1,8 +1,8 @@
 -- What a pace and a penalty rule answer, taken together. Nothing is assumed.
---   Rules     the quantum of a class, its wait at an epoch, the epoch for own and all misses
---   Laws      the laws of the pace and of the penalty rule
+--   Rules      the quantum of a class, its wait at an epoch, the epoch for own and all misses
+--   Laws       the laws of the pace and of the penalty rule
 --   rules_of   the rules of the pace and the penalty rule at hand
---   Alike     two paces and penalty rules that answer alike
+--   Alike      two paces and penalty rules that answer alike
 use Rattle.std.specs.Prelude.{◌≡◌, ℕ, ◌≤◌}
 use Rattle.pace.specs.declared.Pace as Pace
 use Rattle.pace.specs.declared.Penalty as Penalty

@@ -1,14 +1,14 @@
 -- The six calls of a gate, and runs of them. Nothing is assumed.
---   Call          one call: what it answers, and what the gate shows after it
---   Step          a call with its answer, and what the gate shows after it
---   Runs          a list of calls, each made where the one before it left the gate
---   turn          what a call does to the list: it takes a reply, it is a take that is declined, or it only looks
---   replies       the replies taken
+--   Call           one call: what it answers, and what the gate shows after it
+--   Step           a call with its answer, and what the gate shows after it
+--   Runs           a list of calls, each made where the one before it left the gate
+--   turn           what a call does to the list: it takes a reply, it is a take that is declined, or it only looks
+--   replies        the replies taken
 --   release_list   their release ticks; `miss_record`, the misses that the take of each charged
---   takes         how often take was called
---   left          what the gate shows in the end
---   run           the one run that a list of requests has
---   Played        calls that were asked for in one buffer and are reported in another are a run
+--   takes          how often take was called
+--   left           what the gate shows in the end
+--   run            the one run that a list of requests has
+--   Played         calls that were asked for in one buffer and are reported in another are a run
 use Rattle.std.specs.Prelude.{◌≡◌, ℕ, suc, ◌-◌, min, List, [], ◌∷◌, ◌++◌, map, length, take, drop, Ok, Err}
 use Rattle.source.specs.declared.reply.Reply.{Reply}
 use Rattle.pace.specs.Laws.{of_class}

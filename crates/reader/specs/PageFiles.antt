@@ -1,13 +1,13 @@
 -- Page files: rows that count from 1, and a foot. Nothing is assumed.
 --   rows_shown    the rows of a page, one after another; `page_shown`, with the foot that they and the quanta give
---   Fits         each row is in its turn one that a page takes: class at most 7, and the order and range
+--   Fits          each row is in its turn one that a page takes: class at most 7, and the order and range
 --   row_of        the row of a line's numbers
 --   line_read     the row of a line, or the line's fault; its number, order and range are judged last
 --   foot_read     whether a line is a given foot, or its fault; the "=" is its field 1
 --   page_count    how many rows a page has besides its foot; the size is judged before any row
 --   page_answer   the number of rows of a page, or its first fault
 --   page_read     the rows of a page, up to the first fault
---   PageExact    what makes an answer right, in terms of what is shown
+--   PageExact     what makes an answer right, in terms of what is shown
 use Rattle.std.specs.Prelude.{◌≡◌, ℕ, ◌+◌, ◌-◌, ◌*◌, ◌≤◌, min, Bool, true, false, ◌&&◌, List, [], ◌∷◌, ◌++◌, length, take, drop, Some, None, Ok, Err, Option, Result, ◌==◌, ◌≢◌, nat_le, nat_lt, slice_index}
 use Rattle.rows.specs.declared.field.FieldFault.TheVariants.{Form}
 use Rattle.rows.specs.declared.fault.Numbered.{Numbered}

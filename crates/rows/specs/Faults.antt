@@ -1,5 +1,5 @@
 -- A fault with the number of the part that it was found in. Nothing is assumed.
---   numbered_answer     an answer whose fault has the number put on it
+--   numbered_answer      an answer whose fault has the number put on it
 --   field_fault_number   the refusal of a field: 1 for its form, 2 for its limit
 use Rattle.std.specs.Prelude.{ℕ, Ok, Err, Result}
 use Rattle.rows.specs.declared.field.FieldFault.{FieldFault}

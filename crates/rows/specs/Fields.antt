@@ -1,7 +1,7 @@
 -- Fields: how a number is shown in so many bytes, and what bytes are read as. Nothing is assumed.
 --   shown        spaces, then the decimal digits of the number; digits are never cut
 --   scan         the number that bytes show, read from the left, if they show one
---   field_read    that number, or the fault: the form is judged before the limit
+--   field_read   that number, or the fault: the form is judged before the limit
 --   FieldExact   what makes a reading right, in terms of `shown` alone
 use Rattle.std.specs.Prelude.{◌≡◌, ℕ, ◌+◌, ◌-◌, ◌*◌, ◌<◌, ◌≤◌, Bool, true, false, not, ◌&&◌, ◌||◌, List, [], ◌∷◌, ◌++◌, length, replicate, Some, None, Ok, Err, decimal, Option, Result, ◌==◌, ◌≢◌, nat_le}
 use Rattle.rows.specs.declared.field.FieldFault.{FieldFault}

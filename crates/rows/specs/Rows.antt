@@ -1,12 +1,12 @@
 -- Rows, over the shapes of their columns: how numbers are shown as a row, and what bytes are read as. Nothing is
 -- assumed.
 --   row_shown     the numbers, each shown in its column, and a newline
---   Within       as many numbers as columns, each within its column's limit
+--   Within        as many numbers as columns, each within its column's limit
 --   column_read   the field at the front of bytes; where they run out it has no form
 --   row_read      the numbers of a row, or the first fault: fields from the left, then the newline
---   RowExact     what makes a reading right, in terms of `row_shown` and `Within` alone
---   FirstFault   what makes a refusal right: it is the first fault of the row, in terms of `shown` and the limits alone
---   Written      what a writing leaves
+--   RowExact      what makes a reading right, in terms of `row_shown` and `Within` alone
+--   FirstFault    what makes a refusal right: it is the first fault of the row, in terms of `shown` and the limits alone
+--   Written       what a writing leaves
 use Rattle.std.specs.Prelude.{◌≡◌, ℕ, ◌+◌, ◌≤◌, Bool, true, false, ◌&&◌, ◌⊎◌, List, [], ◌∷◌, ◌++◌, length, take, drop, Ok, Err, Result, ◌==◌, ◌≢◌, nat_le}
 use Rattle.rows.specs.declared.field.FieldFault.{FieldFault}
 use Rattle.rows.specs.declared.field.FieldFault.TheVariants.{Form}

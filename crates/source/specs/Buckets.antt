@@ -2,7 +2,7 @@
 --   LeastMultiple   what a raised tick is: a multiple of the width, not below the tick, and less than a width above it
 --   raise           the tick so raised
 --   raised          the replies with raised ready ticks, up to the first that passes the horizon
---   raised_mark      how they end: horizon where one passes it, else as the replies below do
+--   raised_mark     how they end: horizon where one passes it, else as the replies below do
 use Rattle.std.specs.Prelude.{◌≡◌, ℕ, ◌+◌, ◌-◌, ◌*◌, ◌/◌, ◌<◌, ◌≤◌, true, false, List, [], ◌∷◌, Ok, Err, Result, nat_le}
 use Rattle.source.specs.declared.reply.Reply.{Reply}
 use Rattle.source.specs.declared.reply.End.{End}

@@ -1,8 +1,8 @@
 -- The numbers behind a foot's bits. Nothing is assumed.
---   Enough     the least number of bits that tells rows + 1 things apart
+--   Enough      the least number of bits that tells rows + 1 things apart
 --   row_bits    the same, computed, for up to 50,000 rows
 --   occurs_in   whether a class is marked in a table of eight
---   count      how many are marked
+--   count       how many are marked
 use Rattle.std.specs.Prelude.{ℕ, zero, suc, ◌+◌, ◌^◌, ◌≤◌, Bool, true, false, List, count_by, nat_le, slice_index_or}
 
 pub record Enough (rows b : ℕ) : Type 0 where

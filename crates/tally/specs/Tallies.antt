@@ -1,8 +1,8 @@
 -- The tally of a page: which rows it takes, and the foot that they give. Nothing is assumed.
---   begun       the tally of a page without rows; `taken`, with one row more; `tallied`, with all rows of a list
+--   begun        the tally of a page without rows; `taken`, with one row more; `tallied`, with all rows of a list
 --   row_answer   whether a page takes a row: its class, then its order and range, then the room
 --   foot_of      the foot
---   Bounds      the release lists that could have been seen over some rows number at most 2 to some bits
+--   Bounds       the release lists that could have been seen over some rows number at most 2 to some bits
 use Rattle.std.specs.Prelude.{◌≡◌, ℕ, ◌+◌, ◌-◌, ◌*◌, ◌^◌, ◌≤◌, Bool, true, false, ◌&&◌, List, [], ◌∷◌, map, length, replicate, Ok, Err, Result, nat_le, nat_lt, slice_set}
 use Rattle.promise.specs.Rules.{Rules, Laws}
 use Rattle.promise.specs.Leaks.{exponent}

@@ -1,11 +1,11 @@
 -- Files of rows: what reading one row after another leaves, for every kind of row. Nothing is assumed.
---   step         what one row does to a state: the state after it, or the row's fault
+--   step          what one row does to a state: the state after it, or the row's fault
 --   row_count     how many rows a file has; the size is judged before any row
---   Reading      the state that reading leaves, and the fault that it stopped at, if any
+--   Reading       the state that reading leaves, and the fault that it stopped at, if any
 --   read_rows     rows from the top, up to the first that is refused
 --   file_answer   the number of rows, or the first fault
 --   file_read     the state after the rows before the first fault; a file of a wrong size changes nothing
---   RowTaken     one row read in place
+--   RowTaken      one row read in place
 use Rattle.std.specs.Prelude.{◌≡◌, ℕ, zero, suc, ◌+◌, ◌/◌, ◌%◌, true, false, ◌&&◌, List, length, take, drop, Some, None, Ok, Err, Option, Result, ◌==◌, nat_le}
 use Rattle.rows.specs.declared.fault.Numbered.{Numbered}
 use Rattle.rows.specs.declared.fault.RowFault.{RowFault}

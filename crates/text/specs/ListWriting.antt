@@ -1,8 +1,8 @@
 -- Writing list files. Nothing is assumed.
---   check_answer       a list may be written where it is lawful and has at most 50,000 replies; else the fault
+--   check_answer        a list may be written where it is lawful and has at most 50,000 replies; else the fault
 --   list_write_answer   the bytes written, or the fault: the list is judged before the room
---   ListWritten       what a writing leaves
---   ReadsBack         what was written reads as the replies, and no other bytes do
+--   ListWritten         what a writing leaves
+--   ReadsBack           what was written reads as the replies, and no other bytes do
 use Rattle.std.specs.Prelude.{◌≡◌, ℕ, ◌+◌, ◌*◌, ◌≤◌, true, false, List, [], ◌∷◌, length, take, Some, None, Ok, Err, Option, Result, nat_le}
 use Rattle.source.specs.declared.reply.Reply.{Reply}
 use Rattle.source.specs.Replies.{follows}

@@ -5,9 +5,9 @@
 --   reply_read    the reply of a row, or the row's fault; its order is judged last
 --   list_answer   the number of replies in a file, or its first fault
 --   list_read     the replies of a file, up to the first fault
---   ListExact    what makes an answer right: the file is the rows of a lawful list, which is what was read; or its size
---                is that of no list; or its first rows are those of a lawful list, and the next is refused
---   over         a list written over the front of another
+--   ListExact     what makes an answer right: the file is the rows of a lawful list, which is what was read; or its size
+--                 is that of no list; or its first rows are those of a lawful list, and the next is refused
+--   over          a list written over the front of another
 use Rattle.std.specs.Prelude.{◌≡◌, ℕ, ◌+◌, ◌*◌, ◌<◌, ◌≤◌, min, true, false, ◌&&◌, ◌⊎◌, List, [], ◌∷◌, ◌++◌, length, take, drop, Ok, Err, Result, ◌≢◌, nat_le, slice_index}
 use Rattle.std.specs.List.{flat_map}
 use Rattle.source.specs.declared.reply.Reply.{Reply}

@@ -1,5 +1,5 @@
 -- A list and a schedule together. Nothing is assumed.
---   pair_answer      the first row, from 1, whose class has no step is refused
+--   pair_answer       the first row, from 1, whose class has no step is refused
 --   no_step_refusal   the refusal of that row, from the table of refusals
 use Rattle.std.specs.Prelude.{ℕ, ◌+◌, true, false, List, [], ◌∷◌, Ok, Err, Result}
 use Rattle.source.specs.declared.reply.Reply.{Reply}

@@ -1,12 +1,12 @@
 -- Schedule files: a row is a step of a class. Nothing is assumed.
---   Entry            the numbers of a row: class, epoch, wait
+--   Entry             the numbers of a row: class, epoch, wait
 --   schedule_shown    the rows of entries, one after another
 --   schedule_step     a row adds its step to the ladders, or is refused as the step is
 --   schedule_answer   the number of rows in a file, or its first fault
 --   schedule_read     the ladders after the rows before the first fault; a file of a wrong size leaves the old ones
---   Adds             entries added one after another, each of which is taken
---   ScheduleExact    what makes an answer right: the file is the rows of entries that were added; or its size is that of
---                    no schedule; or its first rows are those of entries that were added, and the next is refused
+--   Adds              entries added one after another, each of which is taken
+--   ScheduleExact     what makes an answer right: the file is the rows of entries that were added; or its size is that of
+--                     no schedule; or its first rows are those of entries that were added, and the next is refused
 use Rattle.std.specs.Prelude.{◌≡◌, ℕ, ◌+◌, ◌*◌, ◌≤◌, ◌⊎◌, List, [], ◌∷◌, length, take, drop, Ok, Err, Result, ◌≢◌, slice_index}
 use Rattle.std.specs.List.{flat_map}
 use Rattle.pace.specs.declared.fault.StepFault.{StepFault}
