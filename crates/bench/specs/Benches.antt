@@ -1,15 +1,15 @@
 -- A bench: jobs worked off by servers. Nothing is assumed.
 --   free ticks   the tick at which each server is free, by the server's number
---   earliest    the server free earliest, the lowest-numbered on a tie
---   shift       a job on its server: when it starts, and the reply that it gives
---   plan        the shifts of the jobs in order, up to the job that ends the list
---   plan_mark   how the list ends
---   shifts      the plan of the first 50,000 jobs of a bench, less those taken
---   Idle        a server whose earlier shifts are over at a tick
---   Planned     a shift as it should be: its server works on no other job, the job starts at the earliest tick that
---               some server allows, and is ready after its work; its server is idle whenever another is, and none
---               with a lower number is so
---   Plan        what a plan keeps: each shift is Planned, in time and of a job in range, and it ends only where it must
+--   earliest     the server free earliest, the lowest-numbered on a tie
+--   shift        a job on its server: when it starts, and the reply that it gives
+--   plan         the shifts of the jobs in order, up to the job that ends the list
+--   plan_mark    how the list ends
+--   shifts       the plan of the first 50,000 jobs of a bench, less those taken
+--   Idle         a server whose earlier shifts are over at a tick
+--   Planned      a shift as it should be: its server works on no other job, the job starts at the earliest tick that
+--                some server allows, and is ready after its work; its server is idle whenever another is, and none
+--                with a lower number is so
+--   Plan         what a plan keeps: each shift is Planned, in time and of a job in range, and it ends only where it must
 use Rattle.std.specs.Prelude.{◌≡◌, ℕ, suc, ◌+◌, ◌<◌, ◌≤◌, max, Bool, true, false, ◌&&◌, ◌⊎◌, List, [], ◌∷◌, map, take, drop, Ok, Err, Result, nat_le, slice_index, slice_index_or, slice_set}
 use Rattle.source.specs.declared.reply.Reply.{Reply}
 use Rattle.source.specs.declared.reply.End.{End}

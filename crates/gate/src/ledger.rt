@@ -1,5 +1,5 @@
 // The ledger of a gate: when it was opened, its clock, and what each class was charged.
-ghost use Rattle.std.specs.Prelude.{◌≡◌, ℕ, ◌-◌, ◌^◌, ◌<◌, ◌≤◌, length, sum, slice_index_or};
+ghost use Rattle.std.specs.Prelude.{◌≡◌, ℕ, ◌-◌, ◌^◌, ◌<◌, ◌≤◌, length, sum, slice_index};
 ghost use Rattle.gate.specs.Rows.{misses_at, misses_in, releases_in};
 
 use super::row::Row;
@@ -23,7 +23,7 @@ impl Ledger {
     // The misses of a class.
     pub(crate) fn misses(&self, class: u8) -> u32
         requires { «class» ≤ 7 }
-        ensures { result ≡ slice_index_or (misses_in self.now.rows) «class» 0 }
+        ensures { result ≡ slice_index (misses_in self.now.rows) «class» }
     {
         self.rows[class as usize].misses
     }

@@ -6,7 +6,7 @@
 --   steps_wait      the step at the epoch; past the last step, that one doubled for each epoch more
 --   add_answer      whether a step is taken, or why it is refused: its class, its range, its order
 --   added           the ladders with one more step at the end of a class's
-use Rattle.std.specs.Prelude.{ℕ, ◌-◌, ◌*◌, ◌^◌, min, Bool, true, false, ◌&&◌, ltb, List, [], ◌∷◌, ◌++◌, map, length, get_or, take, replicate, Ok, Err, Result, ◌==◌, nat_le, nat_lt, slice_index, slice_index_or, slice_set}
+use Rattle.std.specs.Prelude.{ℕ, ◌-◌, ◌*◌, ◌^◌, min, Bool, true, false, ◌&&◌, List, [], ◌∷◌, ◌++◌, map, length, take, replicate, Ok, Err, Result, ◌==◌, nat_le, nat_lt, slice_index, slice_index_or, slice_set}
 use Rattle.pace.specs.declared.fault.StepFault.{StepFault}
 use Rattle.pace.specs.declared.fault.StepFault.TheVariants.{Class, Range, Order}
 use Rattle.pace.specs.declared.ladder.ClassSteps.{ClassSteps}
@@ -29,7 +29,7 @@ abbrev pub ladder : List (List ℕ) → ℕ → List ℕ
 ladder ladders c = slice_index_or ladders c []
 
 abbrev pub has_step : List (List ℕ) → ℕ → Bool
-has_step ladders c = elim (nat_le c 7) [ true ↦ ltb 0 (length (ladder ladders c)) | false ↦ false ]
+has_step ladders c = elim (nat_le c 7) [ true ↦ nat_lt 0 (length (ladder ladders c)) | false ↦ false ]
 
 abbrev pub steps_quantum : List ℕ → ℕ
 steps_quantum [] = 1000000
@@ -37,7 +37,7 @@ steps_quantum (p ∷ ps) = p
 
 abbrev pub steps_wait : List ℕ → ℕ → ℕ
 steps_wait [] e = doubled 1000000 e
-steps_wait (p ∷ ps) e = elim (nat_le e (length ps)) [ true ↦ get_or (p ∷ ps) e 0 | false ↦ doubled (slice_index (p ∷ ps) (length ps)) (e - length ps) ]
+steps_wait (p ∷ ps) e = elim (nat_le e (length ps)) [ true ↦ slice_index (p ∷ ps) e | false ↦ doubled (slice_index (p ∷ ps) (length ps)) (e - length ps) ]
 
 -- what is answered past a test of the range, and past the test of the order
 abbrev pub in_range : Bool → Result (Unit {0}) StepFault → Result (Unit {0}) StepFault

@@ -3,8 +3,8 @@
 --   1    a field is not in its form          3    a row has no newline at its end      4    a file has a wrong size
 --   2    a field's number passes its limit   5    a row is out of order
 --   8, 9, 10    a row's step is refused for its class, its range or its order; no file gives 8, as a class above 7 is 2
---   11                a buffer is too short for a list
---   12                a listed class has no step; the class is field 2
+--   11   a buffer is too short for a list
+--   12   a listed class has no step; the class is field 2
 --   refusal_of        the refusal of a file's fault
 --   list_refusal      the refusal of a list that was not written
 --   no_step_refusal   the refusal of a list that does not go with its schedule
