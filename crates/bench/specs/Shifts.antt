@@ -1,31 +1,21 @@
 -- Shifts: the answer for one job, and the plan read from a place on.
-use Rattle.std.specs.Prelude.{◌≡◌, ℕ, zero, suc, ◌+◌, ◌<◌, ◌≤◌, max, true, ◌⊎◌, List, [], ◌∷◌, length, take, drop, IfOk, Some, None, Ok, Err, Result, nat_le, slice_index, slice_set, refl}
+use Rattle.std.specs.Prelude.{◌≡◌, ℕ, ◌+◌, ◌<◌, ◌≤◌, true, ◌⊎◌, List, [], ◌∷◌, length, take, drop, IfOk, Some, None, Ok, Err, Option, Result, nat_le, refl}
 use Rattle.std.proofs.Common.{sym, ◌∙◌, ap, inl, inr, arith, length-take, length-drop}
 use Rattle.std.specs.List.{slice_get}
-use Rattle.std.proofs.lemmas.List.{drop-drop, get_or-take}
-use Rattle.std.proofs.lemmas.Bool.{and_parts, cases_Bool, both_ways, leb-true, leb-false, le-leb, lt-leb}
+use Rattle.std.specs.Option.{ok_or}
+use Rattle.std.proofs.lemmas.List.{drop-drop}
+use Rattle.std.proofs.lemmas.Bool.{and_parts, cases_Bool, both_ways, leb-true, leb-false, le-leb}
 use Rattle.source.specs.declared.reply.End.{End}
 use Rattle.source.specs.declared.reply.End.TheVariants.{Dry, Horizon}
 use Rattle.bench.specs.declared.Job.{Job}
 use Rattle.bench.specs.declared.Shift.{Shift}
 use Rattle.bench.specs.declared.Bench.{Bench}
-use Rattle.bench.specs.declared.Servers.{Servers}
-use Rattle.bench.specs.Benches.{free_of, earliest, InRange, job_follows, worked, shift_of, shift_answer, freed, plan, plan_mark, first_shift, shifts, shifts_mark, NextOf}
+use Rattle.bench.specs.Benches.{free_of, InRange, job_follows, shift_of, shift_answer, freed, plan, plan_mark, first_shift, shifts, shifts_mark, NextOf}
 use Rattle.source.specs.Places.{drop_some, drop_none}
 
 pub cases_result : {X Y : Type 0} (r : Result X Y) → ((x : X) × (r ≡ Ok x)) ⊎ ((y : Y) × (r ≡ Err y))
 cases_result (Ok x) = inl (x, refl)
 cases_result (Err y) = inr (y, refl)
-
-pub take_set : {A : Type 0} (n : ℕ) (l : List A) (i : ℕ) (a : A) → take n (slice_set l i a) ≡ slice_set (take n l) i a
-take_set zero l i a = refl
-take_set (suc n) [] i a = refl
-take_set (suc n) (x ∷ xs) zero a = refl
-take_set (suc n) (x ∷ xs) (suc i) a = ap (λ l. x ∷ l) (take_set n xs i a)
-
--- a start that was worked out from the servers' own array
-pub kept_start : (s : Servers) (server asked start : ℕ) → server < s.number.count → start ≡ max asked (slice_index s.free server) → start ≡ max asked (slice_index (free_of s) server)
-kept_start s server asked start known from = from ∙ ap (max asked) (sym (get_or-take s.number.count s.free server 0 known))
 
 module _ {B : Type 0} where
   pub job_in_range : (last : ℕ) (j : Job B) → job_follows last j ≡ true → InRange last j
@@ -39,20 +29,6 @@ module _ {B : Type 0} where
         known = leb-true j.«class» 7 s.0;
         little = leb-true j.work 1000000 s.1;
       }
-
-  -- the answer for a job that follows
-  module _ (last : ℕ) (free : List ℕ) (j : Job B) (ok : job_follows last j ≡ true) (server start : ℕ) (first : server ≡ earliest free) (from : start ≡ max j.asked (slice_index free server)) where
-    its_shift : worked j server start ≡ shift_of free j
-    its_shift = ap (worked j server) from ∙ ap (λ s. worked j s (max j.asked (slice_index free s))) first
-
-    its_ready : start + j.work ≡ (shift_of free j).reply.ready
-    its_ready = ap (λ x. x.reply.ready) its_shift
-
-    pub shift_taken : start + j.work ≤ 1000000000 → Ok (worked j server start) ≡ shift_answer last free j
-    shift_taken h = ap Ok its_shift ∙ rw (ok, le-leb (shift_of free j).reply.ready 1000000000 (omega (arith, its_ready)), shift_answer) refl
-
-    pub shift_late : 1000000000 < start + j.work → Err Horizon ≡ shift_answer last free j
-    shift_late h = rw (ok, lt-leb (shift_of free j).reply.ready 1000000000 (omega (arith, its_ready)), shift_answer) refl
 
   -- a job whose shift is not taken
   pub in_range_follows : (last : ℕ) (j : Job B) → InRange last j → job_follows last j ≡ true
@@ -125,6 +101,22 @@ module _ {B : Type 0} where
 
     pub next_none : slice_get js k ≡ None → Err Dry ≡ first_shift (plan last free (drop k js)) (plan_mark last free (drop k js))
     next_none at = rw (drop_none js k at) refl
+
+  -- the same, of what was found at the place
+  module _ (js : List (Job B)) (k last : ℕ) (free : List ℕ) (found : Option (Job B)) (at : found ≡ slice_get js k) where
+    pub found_answer : (j : Job B) → ok_or found Dry ≡ Ok j → shift_answer last free j ≡ first_shift (plan last free (drop k js)) (plan_mark last free (drop k js))
+    found_answer j ok = next_answer js k last free j (sym at ∙ some_found found ok)
+      where
+        some_found : (o : Option (Job B)) → ok_or o Dry ≡ Ok j → o ≡ Some j
+        some_found None e = let z : ◌≡◌ {A = ℕ} 0 1 = cc in absurd (omega arith)
+        some_found (Some x) e = let s : x ≡ j = cc in ap Some s
+
+    pub found_none : (e : End) → ok_or found Dry ≡ Err e → Err e ≡ first_shift (plan last free (drop k js)) (plan_mark last free (drop k js))
+    found_none e err = let n = none_found found err in let same : e ≡ Dry = cc in rw same (next_none js k last free (sym at ∙ n))
+      where
+        none_found : (o : Option (Job B)) → ok_or o Dry ≡ Err e → o ≡ None
+        none_found None h = refl
+        none_found (Some x) h = let z : ◌≡◌ {A = ℕ} 0 1 = cc in absurd (omega arith)
 
   -- a shift that was read first: the job that it is of
   pub first_planned : (js : List (Job B)) (last : ℕ) (free : List ℕ) (m : End) (x : Shift B) → Ok x ≡ first_shift (plan last free js) m

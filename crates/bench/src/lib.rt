@@ -55,14 +55,22 @@ impl Servers {
         }
     }
 
+    // The tick at which each server is free.
+    fn free(&self) -> &[u32]
+        ensures { result.now ≡ free_of self.now }
+    {
+        &self.free[..self.number.count]
+    }
+
     // The server that is free earliest, the lowest-numbered on a tie.
     fn earliest(&self) -> usize
         ensures value { result ≡ earliest (free_of self.now) }
         ensures known { result < self.now.number.count }
     {
+        let free = self.free();
         let mut first = 0;
-        for server in 1..self.number.count {
-            if self.free[server] < self.free[first] {
+        for (server, tick) in free.iter().enumerate() {
+            if *tick < free[first] {
                 first = server;
             }
         }
@@ -141,9 +149,7 @@ impl<B: Copy, J: Buffer<Item = Job<B>>> Bench<J> {
         ensures value { result ≡ first_shift (shifts (J.Buffer.items self.now.jobs) self.now) (shifts_mark (J.Buffer.items self.now.jobs) self.now) }
         ensures next { NextOf (J.Buffer.items self.now.jobs) self.now result }
     {
-        let Some(job) = self.jobs.early(self.taken) else {
-            return Err(End::Dry);
-        };
+        let job = self.jobs.early(self.taken).ok_or(End::Dry)?;
         self.shift(job)
     }
 }
@@ -158,8 +164,7 @@ impl<B: Copy, J: Buffer<Item = Job<B>>> Source for Bench<J> {
     ghost lawful = { λ b. lawful_alone b.last _ (plan_lawful b.last (free_of b.servers) (drop b.taken (take 50000 (J.Buffer.items b.jobs)))) };
 
     fn head(&self) -> Result<Reply<B>, End> {
-        let next = self.next_shift()?;
-        Ok(next.reply)
+        Ok(self.next_shift()?.reply)
     }
 
     fn take(&mut self) -> Result<Reply<B>, End> {

@@ -6,11 +6,11 @@
 use Rattle.std.specs.Prelude.{ℕ, true, false, ◌&&◌, List, map, replicate, Ok, Err, Result, nat_le, slice_index_or}
 use Rattle.pace.specs.declared.fault.QuantumFault.{QuantumFault}
 use Rattle.pace.specs.declared.fault.QuantumFault.TheVariants.{Class, Range}
-use Rattle.pace.specs.declared.quantum.Quantum.{Quantum}
+use Rattle.source.specs.declared.setting.Setting.{Setting}
 use Rattle.pace.specs.declared.doubling.Doubling.{Doubling}
 
-abbrev pub ticks_of : Quantum → ℕ
-ticks_of q = q.ticks
+abbrev pub ticks_of : Setting 1 1000000 → ℕ
+ticks_of q = q.value
 
 abbrev pub quanta_of : Doubling → List ℕ
 quanta_of d = map ticks_of d.quanta

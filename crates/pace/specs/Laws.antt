@@ -4,7 +4,7 @@
 --   PenaltyLaw       an epoch from the class's own misses to all misses
 --   quantum_answer   the quantum of a class, or the refusal of a class above 7; wait_answer likewise
 use Rattle.std.specs.Prelude.{ℕ, ◌*◌, ◌^◌, ◌≤◌, min, true, false, Ok, Err, Result, nat_le}
-use Rattle.pace.specs.declared.fault.UnknownClass.{UnknownClass}
+use Rattle.source.specs.declared.fault.UnknownClass.{UnknownClass}
 
 -- one past the horizon: the longest wait, which no prediction survives
 abbrev pub forever : ℕ

@@ -1,22 +1,18 @@
--- The number of each refusal of a pace. Nothing is assumed.
---   8    a class above 7
---   9    a quantum, a first step or a later step out of its range
---   10   a step out of order
-use Rattle.std.specs.Prelude.{ℕ}
-use Rattle.pace.specs.declared.fault.UnknownClass.{UnknownClass}
+-- Which refusal each fault of a pace is. Nothing is assumed.
+--   quantum_fault_code   of a quantum that was not set
+--   step_fault_code      of a step that was not added
+use Rattle.source.specs.declared.refusal.Code.{Code}
+use Rattle.source.specs.declared.refusal.Code.TheVariants as code
 use Rattle.pace.specs.declared.fault.QuantumFault.{QuantumFault}
 use Rattle.pace.specs.declared.fault.QuantumFault.TheVariants as quantum
 use Rattle.pace.specs.declared.fault.StepFault.{StepFault}
 use Rattle.pace.specs.declared.fault.StepFault.TheVariants as step
 
-abbrev pub unknown_class_number : UnknownClass → ℕ
-unknown_class_number u = 8
+abbrev pub quantum_fault_code : QuantumFault → Code
+quantum_fault_code (quantum.Class u) = code.Class
+quantum_fault_code quantum.Range = code.Range
 
-abbrev pub quantum_fault_number : QuantumFault → ℕ
-quantum_fault_number (quantum.Class u) = unknown_class_number u
-quantum_fault_number quantum.Range = 9
-
-abbrev pub step_fault_number : StepFault → ℕ
-step_fault_number (step.Class u) = unknown_class_number u
-step_fault_number step.Range = 9
-step_fault_number step.Order = 10
+abbrev pub step_fault_code : StepFault → Code
+step_fault_code (step.Class u) = code.Class
+step_fault_code step.Range = code.Range
+step_fault_code step.Order = code.Step

@@ -11,7 +11,7 @@ use super::doubled::doubled;
 use super::fault::{QuantumFault, UnknownClass};
 use super::quantum::Quantum;
 use super::{LARGEST_QUANTUM, Pace};
-use source::reply::LAST_CLASS;
+use source::class::Class;
 
 // The quantum of each class.
 #[derive(Clone, Copy)]
@@ -24,8 +24,8 @@ impl Doubling {
     pub fn new() -> Doubling
         ensures { quanta_of result ≡ new_quanta }
     {
-        let largest = Quantum {
-            ticks: LARGEST_QUANTUM,
+        let Ok(largest) = Quantum::new(LARGEST_QUANTUM) else {
+            unreachable()
         };
         Doubling {
             quanta: [largest; 8],
@@ -38,24 +38,16 @@ impl Doubling {
         ensures after { quanta_of self.new ≡ elim result [ Ok _ ↦ slice_set (quanta_of self.old) «class» quantum | Err _ ↦ quanta_of self.old ] }
         ensures refused { (f : QuantumFault) → result ≡ Err f → self.new ≡ self.old }
     {
-        if class > LAST_CLASS {
-            return Err(QuantumFault::Class(UnknownClass));
-        }
-        if quantum < 1 || quantum > LARGEST_QUANTUM {
-            return Err(QuantumFault::Range);
-        }
-        self.quanta[class as usize] = Quantum { ticks: quantum };
+        let index = Class::try_from(class)?.index();
+        self.quanta[index] = Quantum::new(quantum)?;
         Ok(())
     }
 
     // The quantum of a class.
     fn of_class(&self, class: u8) -> Result<&Quantum, UnknownClass>
-        ensures { elim result [ Ok q ↦ («class» ≤ 7) × (q.now.ticks ≡ quantum_at (quanta_of self.now) «class») | Err _ ↦ 7 < «class» ] }
+        ensures { elim result [ Ok q ↦ («class» ≤ 7) × (q.now.value ≡ quantum_at (quanta_of self.now) «class») | Err _ ↦ 7 < «class» ] }
     {
-        if class > LAST_CLASS {
-            return Err(UnknownClass);
-        }
-        Ok(&self.quanta[class as usize])
+        Ok(&self.quanta[Class::try_from(class)?.index()])
     }
 }
 
@@ -73,12 +65,10 @@ impl Pace for Doubling {
         } };
 
     fn quantum(&self, class: u8) -> Result<u32, UnknownClass> {
-        let quantum = self.of_class(class)?;
-        Ok(quantum.ticks)
+        Ok(self.of_class(class)?.value())
     }
 
     fn wait(&self, class: u8, epoch: u32) -> Result<u32, UnknownClass> {
-        let quantum = self.of_class(class)?;
-        Ok(doubled(quantum.ticks, epoch))
+        Ok(doubled(self.of_class(class)?.value(), epoch))
     }
 }

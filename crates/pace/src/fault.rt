@@ -1,20 +1,12 @@
 // What a pace refuses.
+ghost use Rattle.pace.specs.declared.fault.QuantumFault.TheVariants as quantum;
 ghost use Rattle.std.specs.Prelude.{◌≡◌};
-ghost use Rattle.pace.specs.declared.fault.StepFault.TheVariants.{Class};
-ghost use Rattle.pace.specs.Refusals.{unknown_class_number, quantum_fault_number, step_fault_number};
+ghost use Rattle.pace.specs.declared.fault.StepFault.TheVariants as step;
+ghost use Rattle.pace.specs.Refusals.{quantum_fault_code, step_fault_code};
 
-// A class handed to a call is above 7.
-#[derive(Clone, Copy, PartialEq, Eq, Debug)]
-pub struct UnknownClass;
-
-impl UnknownClass {
-    // The number of the refusal.
-    pub fn number(&self) -> u32
-        ensures { result ≡ unknown_class_number self.now }
-    {
-        8
-    }
-}
+use source::fault::OutOfRange;
+pub use source::fault::UnknownClass;
+use source::refusal::{Code, Refused};
 
 // Why a quantum was not set: its class is above 7, or it is not from 1 to 1,000,000.
 #[derive(Clone, Copy, PartialEq, Eq, Debug)]
@@ -23,14 +15,29 @@ pub enum QuantumFault {
     Range,
 }
 
-impl QuantumFault {
-    // The number of the refusal.
-    pub fn number(&self) -> u32
-        ensures { result ≡ quantum_fault_number self.now }
-    {
+impl From<UnknownClass> for QuantumFault {
+    ghost from_gives = { λ u r. r ≡ quantum.Class u };
+
+    fn from(fault: UnknownClass) -> QuantumFault {
+        QuantumFault::Class(fault)
+    }
+}
+
+impl From<OutOfRange> for QuantumFault {
+    ghost from_gives = { λ _ r. r ≡ quantum.Range };
+
+    fn from(_fault: OutOfRange) -> QuantumFault {
+        QuantumFault::Range
+    }
+}
+
+impl Refused for QuantumFault {
+    ghost refusal = { quantum_fault_code };
+
+    fn code(&self) -> Code {
         match self {
-            QuantumFault::Class(unknown) => unknown.number(),
-            QuantumFault::Range => 9,
+            QuantumFault::Class(unknown) => unknown.code(),
+            QuantumFault::Range => Code::Range,
         }
     }
 }
@@ -45,23 +52,22 @@ pub enum StepFault {
     Order,
 }
 
-impl StepFault {
-    // The number of the refusal.
-    pub fn number(&self) -> u32
-        ensures { result ≡ step_fault_number self.now }
-    {
-        match self {
-            StepFault::Class(unknown) => unknown.number(),
-            StepFault::Range => 9,
-            StepFault::Order => 10,
-        }
-    }
-}
-
 impl From<UnknownClass> for StepFault {
-    ghost from_gives = { λ u r. r ≡ Class u };
+    ghost from_gives = { λ u r. r ≡ step.Class u };
 
     fn from(fault: UnknownClass) -> StepFault {
         StepFault::Class(fault)
+    }
+}
+
+impl Refused for StepFault {
+    ghost refusal = { step_fault_code };
+
+    fn code(&self) -> Code {
+        match self {
+            StepFault::Class(unknown) => unknown.code(),
+            StepFault::Range => Code::Range,
+            StepFault::Order => Code::Step,
+        }
     }
 }

@@ -1,10 +1,6 @@
 // A quantum: the wait from which doubling starts.
-ghost use Rattle.std.specs.Prelude.{◌≤◌};
+use super::LARGEST_QUANTUM;
+use source::setting::Setting;
 
 // From 1 to 1,000,000 ticks.
-#[derive(Clone, Copy)]
-pub struct Quantum {
-    pub(crate) ticks: u32,
-    ghost low: { 1 ≤ ticks },
-    ghost high: { ticks ≤ 1000000 },
-}
+pub type Quantum = Setting<1, LARGEST_QUANTUM>;

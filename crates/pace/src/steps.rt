@@ -1,5 +1,5 @@
 // A pace by steps: up to sixteen waits written out for each class, and doubling from the last one on.
-ghost use Rattle.std.specs.Prelude.{◌≡◌, ◌<◌, ◌≤◌, [], ◌∷◌, ◌++◌, Ok, Err, slice_set};
+ghost use Rattle.std.specs.Prelude.{◌≡◌, ◌<◌, ◌≤◌, [], ◌∷◌, ◌++◌, Ok, Err};
 ghost use Rattle.pace.specs.declared.fault.StepFault.{StepFault};
 ghost use Rattle.pace.specs.Steps.{ladder_of, ladders_of, no_steps, ladder, has_step, steps_quantum, steps_wait, step_answer, add_answer, added};
 ghost use Rattle.pace.specs.Ladders.{ladders_sound};
@@ -9,7 +9,8 @@ use super::doubled::doubled;
 use super::fault::{StepFault, UnknownClass};
 use super::ladder::{ClassSteps, MOST_STEPS};
 use super::{LARGEST_QUANTUM, Pace};
-use source::reply::{HORIZON, LAST_CLASS};
+use source::class::Class;
+use source::reply::HORIZON;
 
 // The steps of each class.
 #[derive(Clone, Copy)]
@@ -28,38 +29,41 @@ impl ClassSteps {
         }
     }
 
+    // The steps, from the wait at epoch 0 on.
+    fn steps(&self) -> &[u32]
+        ensures { result.now ≡ ladder_of self.now }
+    {
+        &self.waits[..self.count as usize]
+    }
+
     fn quantum(&self) -> u32
         ensures { result ≡ steps_quantum (ladder_of self.now) }
     {
-        if self.count == 0 {
-            LARGEST_QUANTUM
-        } else {
-            self.waits[0]
-        }
+        self.steps().first().copied().unwrap_or(LARGEST_QUANTUM)
     }
 
     fn wait(&self, epoch: u32) -> u32
         ensures { result ≡ steps_wait (ladder_of self.now) epoch }
     {
-        if self.count == 0 {
-            return doubled(LARGEST_QUANTUM, epoch);
+        let steps = self.steps();
+        if let Some(wait) = steps.get(epoch as usize) {
+            return *wait;
         }
-        if epoch < self.count {
-            return self.waits[epoch as usize];
+        match steps.last() {
+            Some(last) => doubled(*last, epoch - (self.count - 1)),
+            None => doubled(LARGEST_QUANTUM, epoch),
         }
-        let last = self.count - 1;
-        doubled(self.waits[last as usize], epoch - last)
     }
 
     // Whether a wait can be the next step, or why it cannot.
     fn judge(&self, epoch: u32, wait: u32) -> Result<(), StepFault>
         ensures { result ≡ step_answer (ladder_of self.now) epoch wait }
     {
-        if self.count == 0 {
+        let Some(first) = self.steps().first() else {
             return judge_first(epoch, wait);
-        }
+        };
         let count = self.count;
-        let least = doubled(self.waits[0], count);
+        let least = doubled(*first, count);
         if wait > HORIZON {
             Err(StepFault::Range)
         } else if count == MOST_STEPS || wait < least || epoch != count {
@@ -112,9 +116,10 @@ impl Steps {
         ensures after { ladders_of self.new ≡ elim result [ Ok _ ↦ added (ladders_of self.old) «class» wait | Err _ ↦ ladders_of self.old ] }
         ensures refused { (f : StepFault) → result ≡ Err f → self.new ≡ self.old }
     {
-        let steps = *self.of_class(class)?;
+        let index = Class::try_from(class)?.index();
+        let steps = self.classes[index];
         steps.judge(epoch, wait)?;
-        self.put(class, steps.with(epoch, wait));
+        self.classes[index] = steps.with(epoch, wait);
         Ok(())
     }
 
@@ -122,28 +127,14 @@ impl Steps {
     pub fn has_step(&self, class: u8) -> bool
         ensures { result ≡ has_step (ladders_of self.now) «class» }
     {
-        match self.of_class(class) {
-            Ok(steps) => steps.count > 0,
-            Err(_) => false,
-        }
+        self.of_class(class).is_ok_and(|steps| steps.count > 0)
     }
 
     // The steps of a class.
     fn of_class(&self, class: u8) -> Result<&ClassSteps, UnknownClass>
         ensures { elim result [ Ok s ↦ («class» ≤ 7) × (ladder_of s.now ≡ ladder (ladders_of self.now) «class») | Err _ ↦ 7 < «class» ] }
     {
-        if class > LAST_CLASS {
-            return Err(UnknownClass);
-        }
-        Ok(&self.classes[class as usize])
-    }
-
-    // Gives a class its steps.
-    fn put(&mut self, class: u8, steps: ClassSteps)
-        requires { «class» ≤ 7 }
-        ensures { ladders_of self.new ≡ slice_set (ladders_of self.old) «class» (ladder_of steps) }
-    {
-        self.classes[class as usize] = steps;
+        Ok(&self.classes[Class::try_from(class)?.index()])
     }
 }
 
@@ -161,12 +152,10 @@ impl Pace for Steps {
         } };
 
     fn quantum(&self, class: u8) -> Result<u32, UnknownClass> {
-        let steps = self.of_class(class)?;
-        Ok(steps.quantum())
+        Ok(self.of_class(class)?.quantum())
     }
 
     fn wait(&self, class: u8, epoch: u32) -> Result<u32, UnknownClass> {
-        let steps = self.of_class(class)?;
-        Ok(steps.wait(epoch))
+        Ok(self.of_class(class)?.wait(epoch))
     }
 }

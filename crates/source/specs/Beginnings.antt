@@ -1,7 +1,9 @@
 -- The longest lawful beginning of what is left of a list, read from a place on.
-use Rattle.std.specs.Prelude.{◌≡◌, ℕ, ◌+◌, ◌≤◌, true, false, List, [], ◌∷◌, ◌++◌, length, take, drop, Some, None, Ok, Err, Result, nat_le, refl}
+use Rattle.std.specs.Prelude.{◌≡◌, ℕ, ◌+◌, ◌≤◌, Bool, true, false, List, [], ◌∷◌, ◌++◌, length, take, drop, Some, None, Ok, Err, Option, Result, nat_le, refl}
 use Rattle.std.proofs.Common.{sym, ◌∙◌, ap, subst, inl, inr, arith, length-take, length-drop}
 use Rattle.std.specs.List.{slice_get}
+use Rattle.std.specs.Bool.{then_some}
+use Rattle.std.specs.Option.{MatchOption, ok_or}
 use Rattle.std.proofs.lemmas.List.{drop-drop}
 use Rattle.std.proofs.lemmas.Bool.{and_parts, leb-true, le-leb, cases_Bool}
 use Rattle.source.specs.declared.reply.Reply.{Reply}
@@ -9,7 +11,7 @@ use Rattle.source.specs.declared.reply.End.{End}
 use Rattle.source.specs.declared.reply.End.TheVariants.{Dry}
 use Rattle.source.specs.declared.trace.Trace.{Trace}
 use Rattle.source.specs.Replies.{Follows, LawfulFrom, Lawful, first, follows, beginning, LongestLawful}
-use Rattle.source.specs.Traces.{shown, Next}
+use Rattle.source.specs.Traces.{shown, NextOf}
 use Rattle.source.specs.Places.{drop_some, drop_none}
 
 module _ {B : Type 0} where
@@ -63,16 +65,28 @@ module _ {B : Type 0} where
         longest = λ us vs e l. subst (λ m. length us ≤ length (beginning 0 m)) (sym e) (beginning_longest 0 us vs l);
       }
 
-  -- what stands at the place that is read next
-  module _ (rs : List (Reply B)) (k last : ℕ) (e : End) where
-    pub head_lawful : (r : Reply B) → slice_get rs k ≡ Some r → follows last r ≡ true → Ok r ≡ first (beginning last (drop k rs)) e
-    head_lawful r at ok = rw (drop_some rs k r at, begins last r (drop (k + 1) rs) ok) refl
+  -- what stands at the place that is read next, kept if it follows
+  abbrev pub kept : Option (Reply B) → ℕ → Option (Reply B)
+  kept None last = None
+  kept (Some r) last = then_some (follows last r) r
 
-    pub head_unlawful : (r : Reply B) → slice_get rs k ≡ Some r → follows last r ≡ false → Err e ≡ first (beginning last (drop k rs)) e
-    head_unlawful r at bad = rw (drop_some rs k r at, stops last r (drop (k + 1) rs) bad) refl
+  pub head_kept : (rs : List (Reply B)) (k last : ℕ) (e : End) (at got : Option (Reply B)) (r : Result (Reply B) End)
+      → at ≡ slice_get rs k → got ≡ kept at last → r ≡ ok_or got e → r ≡ first (beginning last (drop k rs)) e
+  head_kept rs k last e at got r here so is = is ∙ (ap (λ o. ok_or o e) so ∙ by_case at here)
+    where
+      by_case : (o : Option (Reply B)) → o ≡ slice_get rs k → ok_or (kept o last) e ≡ first (beginning last (drop k rs)) e
+      by_case None at = rw (drop_none rs k (sym at)) refl
+      by_case (Some x) at =
+          elim (cases_Bool (follows last x)) [
+            | inl ok ↦ rw (drop_some rs k x (sym at), begins last x (drop (k + 1) rs) ok, ok) refl
+            | inr bad ↦ rw (drop_some rs k x (sym at), stops last x (drop (k + 1) rs) bad, bad) refl
+          ]
 
-    pub head_none : slice_get rs k ≡ None → Err e ≡ first (beginning last (drop k rs)) e
-    head_none at = rw (drop_none rs k at) refl
+  -- the library's filter keeps it so
+  pub filter_keeps : (last : ℕ) (at r : Option (Reply B)) (Says : Reply B → Bool → Type 0) → ((x : Reply B) (b : Bool) → Says x b → b ≡ follows last x)
+      → MatchOption at (r ≡ None) (λ x. (b : Bool) × Says x b × (r ≡ then_some b x)) → r ≡ kept at last
+  filter_keeps last None r Says says h = h
+  filter_keeps last (Some x) r Says says h = h.2 ∙ ap (λ b. then_some b x) (says x h.0 h.1)
 
   pub first_lawful : (rs : List (Reply B)) (last : ℕ) (e : End) (r : Reply B) → Ok r ≡ first (beginning last rs) e
       → (rs ≡ r ∷ drop 1 rs) × (follows last r ≡ true)
@@ -90,8 +104,9 @@ module _ {B : Type 0} where
       never p = let z : ◌≡◌ {A = ℕ} 0 1 = cc in omega arith
 
   -- a reply that was read: its place is inside the list, and what is left begins after it
-  pub next_is : {R : Type 0} (held : List (Reply B)) (t : Trace R) (r : Reply B) → Ok r ≡ first (shown held t) Dry → Next held t r
-  next_is held t r h =
+  pub next_of : {R : Type 0} (held : List (Reply B)) (t : Trace R) (r : Result (Reply B) End) → r ≡ first (shown held t) Dry → NextOf held t r
+  next_of held t (Err e) h = tt
+  next_of held t (Ok r) h =
       let rs = take 50000 held in
       let p = first_lawful (drop t.taken rs) t.last Dry r h in
       let here : drop t.taken rs ≡ r ∷ drop (t.taken + 1) rs = p.0 ∙ ap (λ l. r ∷ l) (drop-drop 1 t.taken rs) in

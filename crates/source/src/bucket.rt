@@ -10,13 +10,13 @@ use super::setting::Width;
 impl Width {
     // A tick raised to the least multiple of the width not below it, or the mark where that passes the horizon.
     pub fn raise(&self, tick: u32) -> Result<u32, End>
-        ensures value { result ≡ raise_answer self.now.ticks tick }
-        ensures least { LeastMultiple self.now.ticks tick (raise self.now.ticks tick) }
+        ensures value { result ≡ raise_answer self.now.value tick }
+        ensures least { LeastMultiple self.now.value tick (raise self.now.value tick) }
     {
         if tick > HORIZON {
             return Err(End::Horizon);
         }
-        let up = (tick + (self.ticks - 1)) / self.ticks * self.ticks;
+        let up = tick.next_multiple_of(self.value());
         if up <= HORIZON {
             Ok(up)
         } else {
@@ -44,21 +44,16 @@ impl<S: Source> Bucket<S> {
 impl<S: Source> Source for Bucket<S> {
     type Body = S::Body;
 
-    ghost coming = { λ b. raised b.width.ticks (S.Source.coming b.source) };
+    ghost coming = { λ b. raised b.width.value (S.Source.coming b.source) };
 
-    ghost mark = { λ b. raised_mark b.width.ticks (S.Source.coming b.source) (S.Source.mark b.source) };
+    ghost mark = { λ b. raised_mark b.width.value (S.Source.coming b.source) (S.Source.mark b.source) };
 
-    ghost lawful = { λ b. raised_lawful b.width.ticks b.width.low 0 _ (S.Source.lawful b.source) };
+    ghost lawful = { λ b. raised_lawful b.width.value b.width.low 0 _ (S.Source.lawful b.source) };
 
     fn head(&self) -> Result<Reply<S::Body>, End> {
         let reply = self.source.head()?;
         let ready = self.width.raise(reply.ready)?;
-        Ok(Reply {
-            asked: reply.asked,
-            class: reply.class,
-            ready,
-            body: reply.body,
-        })
+        Ok(Reply { ready, ..reply })
     }
 
     fn take(&mut self) -> Result<Reply<S::Body>, End> {

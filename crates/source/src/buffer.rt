@@ -32,11 +32,6 @@ impl<T: Copy> Buffer for &[T] {
     ghost items = { λ s. s.now };
 
     fn item(&self, index: usize) -> Option<T> {
-        let items = *self;
-        if index < items.len() {
-            Some(items[index])
-        } else {
-            None
-        }
+        self.get(index).copied()
     }
 }

@@ -1,16 +1,28 @@
-// What a checked setting refuses.
-ghost use Rattle.std.specs.Prelude.{◌≡◌};
-ghost use Rattle.source.specs.Refusals.{out_of_range_number};
+// What a checked setting or class refuses.
+ghost use Rattle.source.specs.declared.refusal.Code.TheVariants as code;
+
+use super::refusal::{Code, Refused};
 
 // A setting is below its lowest value or above its highest.
 #[derive(Clone, Copy, PartialEq, Eq, Debug)]
 pub struct OutOfRange;
 
-impl OutOfRange {
-    // The number of the refusal.
-    pub fn number(&self) -> u32
-        ensures { result ≡ out_of_range_number self.now }
-    {
-        9
+impl Refused for OutOfRange {
+    ghost refusal = { λ _. code.Range };
+
+    fn code(&self) -> Code {
+        Code::Range
+    }
+}
+
+// A class is above 7.
+#[derive(Clone, Copy, PartialEq, Eq, Debug)]
+pub struct UnknownClass;
+
+impl Refused for UnknownClass {
+    ghost refusal = { λ _. code.Class };
+
+    fn code(&self) -> Code {
+        Code::Class
     }
 }

@@ -1,7 +1,9 @@
 // A reply of a service, and how a list of replies ends.
 ghost use Rattle.std.specs.Prelude.{◌≡◌};
-ghost use Rattle.source.specs.Refusals.{end_number};
+ghost use Rattle.source.specs.Refusals.{end_code};
 ghost use Rattle.source.specs.Replies.{follows};
+
+use super::refusal::{Code, Refused};
 
 // The horizon: the last tick.
 pub const HORIZON: u32 = 1_000_000_000;
@@ -38,14 +40,13 @@ pub enum End {
     Horizon,
 }
 
-impl End {
-    // The number of the refusal with which a call answers the mark.
-    pub fn number(&self) -> u32
-        ensures { result ≡ end_number self.now }
-    {
+impl Refused for End {
+    ghost refusal = { end_code };
+
+    fn code(&self) -> Code {
         match self {
-            End::Dry => 6,
-            End::Horizon => 7,
+            End::Dry => Code::Dry,
+            End::Horizon => Code::Horizon,
         }
     }
 }

@@ -7,22 +7,34 @@ use super::fault::OutOfRange;
 // The largest width of a bucket.
 pub const LARGEST_WIDTH: u32 = 1_000_000;
 
-// The width of a bucket, from 1 to 1,000,000 ticks.
-#[derive(Clone, Copy)]
-pub struct Width {
-    pub(crate) ticks: u32,
-    ghost low: { 1 ≤ ticks },
-    ghost high: { ticks ≤ 1000000 },
+// A number from LOW to HIGH.
+#[derive(Clone, Copy, PartialEq, Eq, Debug)]
+pub struct Setting<const LOW: u32, const HIGH: u32> {
+    value: u32,
+    ghost low: { LOW ≤ value },
+    ghost high: { value ≤ HIGH },
 }
 
-impl Width {
-    // A width of so many ticks.
-    pub fn new(ticks: u32) -> Result<Width, OutOfRange>
-        ensures { elim result [ Ok w ↦ Ok w.ticks | Err e ↦ Err e ] ≡ checked 1 1000000 ticks }
+impl<const LOW: u32, const HIGH: u32> Setting<LOW, HIGH> {
+    // The number as a setting, if it is in range.
+    pub fn new(value: u32) -> Result<Setting<LOW, HIGH>, OutOfRange>
+        ensures { elim result [ Ok s ↦ Ok s.value | Err e ↦ Err e ] ≡ checked LOW HIGH value }
     {
-        if ticks < 1 || ticks > LARGEST_WIDTH {
+        if value < LOW || value > HIGH {
             return Err(OutOfRange);
         }
-        Ok(Width { ticks })
+        Ok(Setting { value })
+    }
+
+    // The number.
+    pub fn value(&self) -> u32
+        ensures value { result ≡ self.now.value }
+        ensures low { LOW ≤ result }
+        ensures high { result ≤ HIGH }
+    {
+        self.value
     }
 }
+
+// The width of a bucket, from 1 to 1,000,000 ticks.
+pub type Width = Setting<1, LARGEST_WIDTH>;

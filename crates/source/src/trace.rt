@@ -38,14 +38,10 @@ impl<B: Copy, R: Buffer<Item = Reply<B>>> Trace<R> {
         ensures value { result ≡ first (shown (R.Buffer.items self.now.records) self.now) Dry }
         ensures next { NextOf (R.Buffer.items self.now.records) self.now result }
     {
-        let Some(reply) = self.records.early(self.taken) else {
-            return Err(End::Dry);
-        };
-        if reply.follows(self.last) {
-            Ok(reply)
-        } else {
-            Err(End::Dry)
-        }
+        self.records
+            .early(self.taken)
+            .filter(|reply| reply.follows(self.last))
+            .ok_or(End::Dry)
     }
 }
 

@@ -1,23 +1,27 @@
-use Rattle.std.proofs.Common.{◌≡◌, subst, arith}
-use Rattle.bench.specs.Earliest.{FirstUpTo, first_one, first_stays, first_moves, found_earliest}
+use Rattle.std.proofs.Common.{◌≡◌, ◌<◌, length, arith, ap, ◌∙◌, subst}
+use Rattle.bench.specs.Benches.{earliest}
+use Rattle.bench.specs.Earliest.{Best, free_length, best_stays, best_moves, found_earliest}
 use Rattle.bench.proofs.Servers.earliest.Goals as goal
-use Rattle.bench.proofs.Servers.earliest.Goals.{then-self-server, else-self-server}
-
-pub loop-server-init : goal.loop-server-init
-loop-server-init c = first_one c.args.self.now.free
+use Rattle.bench.proofs.Servers.earliest.Goals.{then-tick-free, else-tick-free}
 
 pub loop-server-preserved : goal.loop-server-preserved
 loop-server-preserved c =
-    let free = c.args.self.now.free in
+    let free = c.free-free.result.now in
     let n = c.loop-server.server in
-    elim c.if-self-server.branch [
-      | then-self-server w ↦ rw w.first-is (first_moves free n c.loop-server.first c.loop-server.invariant w.if-self-server.true)
-      | else-self-server w ↦ rw w.first-is (first_stays free n c.loop-server.first c.loop-server.invariant w.if-self-server.false)
+    elim c.if-tick-free.branch [
+      | then-tick-free w ↦ rw w.first-is (best_moves free n c.loop-server.first c.loop-server.invariant w.if-tick-free.true)
+      | else-tick-free w ↦ rw w.first-is (best_stays free n c.loop-server.first c.loop-server.invariant w.if-tick-free.false)
     ]
 
 pub returns : goal.returns
 returns c =
     let s = c.args.self.now in
-    let end : c.loop-server.server ≡ s.number.count = omega (arith, c.loop-server.auto.server-end s.number.some) in
-    let f : FirstUpTo s.free s.number.count c.loop-server.first = subst (λ n. FirstUpTo s.free n c.loop-server.first) end c.loop-server.invariant in
-    record { value = found_earliest s.free s.number.count c.loop-server.first s.number.some (omega (arith, s.number.few)) f; known = f.known }
+    let free = c.free-free.result.now in
+    let long : length free ≡ s.number.count = ap length c.free-free.ensures ∙ free_length s (omega arith) in
+    let some : 0 < length free = omega (arith, s.number.some) in
+    let end : c.loop-server.server ≡ length free = omega arith in
+    let best : Best free (length free) c.loop-server.first = subst (λ n. Best free n c.loop-server.first) end c.loop-server.invariant in
+    record {
+      value = found_earliest free c.loop-server.first some best ∙ ap earliest c.free-free.ensures;
+      known = omega (arith, (best.first some).known);
+    }
