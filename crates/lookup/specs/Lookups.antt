@@ -5,7 +5,6 @@
 --   NoneLies    no row was released there
 use Rattle.std.specs.Prelude.{◌≡◌, ℕ, ◌-◌, ◌≤◌, Bool, true, ◌&&◌, List, length, nat_le, slice_index_or}
 use Rattle.tally.specs.declared.line.PageRow.{PageRow}
-use Rattle.lookup.specs.declared.NoRow.{NoRow}
 
 abbrev pub within : ℕ → ℕ → PageRow → Bool
 within t1 t2 r = nat_le t1 r.release && nat_le r.release t2
@@ -29,6 +28,3 @@ pub record Highest (t1 t2 : ℕ) (rows : List PageRow) (n : ℕ) : Type 0 where
 
 abbrev pub NoneLies : ℕ → ℕ → List PageRow → Type 0
 NoneLies t1 t2 rows = (n : ℕ) → Lies t1 t2 rows n → ⊥
-
-abbrev pub no_row_number : NoRow → ℕ
-no_row_number f = 13

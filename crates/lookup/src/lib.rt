@@ -2,20 +2,21 @@
 #![tactic(auto)]
 
 ghost use Rattle.std.specs.Prelude.{◌≡◌, ℕ, ◌+◌, ◌≤◌, length, MatchResult};
-ghost use Rattle.lookup.specs.Lookups.{within, Lies, Lowest, Highest, NoneLies, no_row_number};
+ghost use Rattle.lookup.specs.Lookups.{within, Lies, Lowest, Highest, NoneLies};
+ghost use Rattle.source.specs.declared.refusal.Code.TheVariants as code;
 
+use source::refusal::{Code, Refused};
 use tally::line::PageRow;
 
 // No row was released there.
 #[derive(Clone, Copy, PartialEq, Eq, Debug)]
 pub struct NoRow;
 
-impl NoRow {
-    // The number of the refusal.
-    pub fn number(&self) -> u32
-        ensures { result ≡ no_row_number self.now }
-    {
-        13
+impl Refused for NoRow {
+    ghost refusal = { λ _. code.NoRow };
+
+    fn code(&self) -> Code {
+        Code::NoRow
     }
 }
 

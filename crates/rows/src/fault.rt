@@ -1,10 +1,11 @@
 // What is refused in a row. A row's fault holds whole the fault of the field, with the number of the field.
 ghost use Rattle.std.specs.Prelude.{◌≡◌};
-ghost use Rattle.rows.specs.Faults.{numbered_answer, field_fault_number};
+ghost use Rattle.rows.specs.Faults.{numbered_answer, field_fault_code};
 ghost use Rattle.rows.specs.declared.fault.RowFault.TheVariants.{Field, Step};
 
 use super::field::FieldFault;
 use pace::fault::StepFault;
+use source::refusal::{Code, Refused};
 
 // A fault, and the number, from 1, of the part that it was found in.
 #[derive(Clone, Copy, PartialEq, Eq, Debug)]
@@ -48,14 +49,13 @@ pub fn at_number<T, E>(number: u32, r: Result<T, E>) -> Result<T, Numbered<E>>
     }
 }
 
-impl FieldFault {
-    // The number of the refusal.
-    pub fn number(&self) -> u32
-        ensures { result ≡ field_fault_number self.now }
-    {
+impl Refused for FieldFault {
+    ghost refusal = { field_fault_code };
+
+    fn code(&self) -> Code {
         match self {
-            FieldFault::Form => 1,
-            FieldFault::Limit => 2,
+            FieldFault::Form => Code::Form,
+            FieldFault::Limit => Code::Limit,
         }
     }
 }

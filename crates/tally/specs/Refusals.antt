@@ -1,9 +1,10 @@
--- The numbers that a page's refusals are printed as. Nothing is assumed.
-use Rattle.std.specs.Prelude.{ℕ}
+-- Which refusal each fault of a page is. Nothing is assumed.
+use Rattle.source.specs.declared.refusal.Code.{Code}
+use Rattle.source.specs.declared.refusal.Code.TheVariants as code
 use Rattle.tally.specs.declared.line.PageFault.{PageFault}
 use Rattle.tally.specs.declared.line.PageFault.TheVariants.{Class, Order, Room}
 
-abbrev pub page_number : PageFault → ℕ
-page_number Class = 8
-page_number Order = 5
-page_number Room = 11
+abbrev pub page_fault_code : PageFault → Code
+page_fault_code Class = code.Class
+page_fault_code Order = code.Order
+page_fault_code Room = code.Room

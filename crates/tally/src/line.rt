@@ -1,6 +1,7 @@
 // The rows of a page: one for each release, and the foot.
-ghost use Rattle.std.specs.Prelude.{◌≡◌};
-ghost use Rattle.tally.specs.Refusals.{page_number};
+ghost use Rattle.tally.specs.Refusals.{page_fault_code};
+
+use source::refusal::{Code, Refused};
 
 // A page holds at most this many rows; its foot is extra.
 pub const MOST_ROWS: u32 = 50_000;
@@ -37,15 +38,14 @@ pub enum PageFault {
     Room,
 }
 
-impl PageFault {
-    // The number that the refusal is printed as.
-    pub fn number(&self) -> u32
-        ensures { result ≡ page_number self.now }
-    {
+impl Refused for PageFault {
+    ghost refusal = { page_fault_code };
+
+    fn code(&self) -> Code {
         match self {
-            PageFault::Class => 8,
-            PageFault::Order => 5,
-            PageFault::Room => 11,
+            PageFault::Class => Code::Class,
+            PageFault::Order => Code::Order,
+            PageFault::Room => Code::Room,
         }
     }
 }

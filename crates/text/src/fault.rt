@@ -1,10 +1,11 @@
 // What is refused in a file. A file's fault holds whole the fault of the row, with the number of the row.
-ghost use Rattle.std.specs.Prelude.{◌≡◌};
-ghost use Rattle.text.specs.Refusals.{refusal, refusal_of, list_refusal};
+ghost use Rattle.std.specs.Prelude.{◌≡◌, Some, None};
+ghost use Rattle.text.specs.Refusals.{refusal, numbers_of, refusal_of, list_refusal};
 ghost use Rattle.text.specs.declared.fault.FileFault.TheVariants.{Row};
 ghost use Rattle.text.specs.declared.fault.ListFault.TheVariants.{File};
 
 use rows::fault::{Numbered, RowFault};
+use source::refusal::{Code, Refused};
 
 // Why a file was refused: a row of it, or its size.
 #[derive(Clone, Copy, PartialEq, Eq, Debug)]
@@ -36,19 +37,55 @@ impl From<FileFault> for ListFault {
     }
 }
 
-// A refusal as it is printed: its number, and the row and field that it names. A part that does not apply is 0.
+// A refusal, and the row and the field of a file that it names, where it names one.
 #[derive(Clone, Copy, PartialEq, Eq, Debug)]
 pub struct Refusal {
-    pub number: u32,
-    pub row: u32,
-    pub field: u32,
+    pub code: Code,
+    pub row: Option<u32>,
+    pub field: Option<u32>,
 }
 
 impl Refusal {
-    pub(crate) fn new(number: u32, row: u32, field: u32) -> Refusal
-        ensures { result ≡ refusal number row field }
+    // Of a whole file.
+    pub fn of_file(code: Code) -> Refusal
+        ensures { result ≡ refusal code None None }
     {
-        Refusal { number, row, field }
+        Refusal {
+            code,
+            row: None,
+            field: None,
+        }
+    }
+
+    // Of a row.
+    pub fn of_row(code: Code, row: u32) -> Refusal
+        ensures { result ≡ refusal code (Some row) None }
+    {
+        Refusal {
+            row: Some(row),
+            ..Refusal::of_file(code)
+        }
+    }
+
+    // Of a field of a row.
+    pub fn of_field(code: Code, row: u32, field: u32) -> Refusal
+        ensures { result ≡ refusal code (Some row) (Some field) }
+    {
+        Refusal {
+            field: Some(field),
+            ..Refusal::of_row(code, row)
+        }
+    }
+
+    // The number of the refusal, its row and its field, as they are printed: a part that does not apply is 0.
+    pub fn numbers(&self) -> [u32; 3]
+        ensures { result ≡ numbers_of self.now }
+    {
+        [
+            self.code.number(),
+            self.row.unwrap_or(0),
+            self.field.unwrap_or(0),
+        ]
     }
 }
 
@@ -58,13 +95,15 @@ impl FileFault {
         ensures { result ≡ refusal_of self.now }
     {
         let FileFault::Row(row) = *self else {
-            return Refusal::new(4, 0, 0);
+            return Refusal::of_file(Code::Size);
         };
         match row.fault {
-            RowFault::Field(field) => Refusal::new(field.fault.number(), row.number, field.number),
-            RowFault::Newline => Refusal::new(3, row.number, 0),
-            RowFault::Order => Refusal::new(5, row.number, 0),
-            RowFault::Step(step) => Refusal::new(step.number(), row.number, 0),
+            RowFault::Field(field) => {
+                Refusal::of_field(field.fault.code(), row.number, field.number)
+            }
+            RowFault::Newline => Refusal::of_row(Code::Newline, row.number),
+            RowFault::Order => Refusal::of_row(Code::Order, row.number),
+            RowFault::Step(step) => Refusal::of_row(step.code(), row.number),
         }
     }
 }
@@ -76,7 +115,7 @@ impl ListFault {
     {
         match self {
             ListFault::File(file) => file.refusal(),
-            ListFault::Room => Refusal::new(11, 0, 0),
+            ListFault::Room => Refusal::of_file(Code::Room),
         }
     }
 }

@@ -7,6 +7,7 @@ ghost use Rattle.text.specs.Refusals.{no_step_refusal};
 use super::fault::Refusal;
 use super::list::MOST_REPLIES;
 use pace::steps::Steps;
+use source::refusal::Code;
 use source::reply::Reply;
 
 // The row, from 1, of the first reply whose class has no step.
@@ -20,7 +21,7 @@ impl NoStep {
     pub fn refusal(&self) -> Refusal
         ensures { result ≡ no_step_refusal self.now }
     {
-        Refusal::new(12, self.row, 2)
+        Refusal::of_field(Code::NoStep, self.row, 2)
     }
 }
 
