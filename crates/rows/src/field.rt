@@ -40,6 +40,7 @@ pub(crate) fn read_field(bytes: &[u8], limit: u64) -> Result<u64, FieldFault>
 }
 
 // Writes the number over the whole of `out`, its last digit last.
+#[tactic(auto, using(std::proofs::lemmas::Fmt::decimal_nonempty))]
 pub(crate) fn write_field(out: &mut [u8], value: u64)
     requires { length (decimal value) ≤ length out.old }
     ensures { out.new ≡ shown (length out.old) value }
@@ -47,9 +48,7 @@ pub(crate) fn write_field(out: &mut [u8], value: u64)
     let n = out.len();
     out[n - 1] = b'0' + (value % 10) as u8;
     let mut left = value / 10;
-    let mut i = n - 1;
-    while i > 0 {
-        i -= 1;
+    for i in (0..n - 1).rev() {
         out[i] = if left > 0 {
             b'0' + (left % 10) as u8
         } else {
