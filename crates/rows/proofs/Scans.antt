@@ -1,4 +1,4 @@
--- Reading a field byte by byte: what each byte does, and the turns of the reader's loop.
+-- Reading a field byte by byte: a digit that is read, and the number so far.
 use Rattle.std.proofs.Common.{◌≡◌, ℕ, ◌+◌, ◌-◌, ◌*◌, ◌^◌, ◌<◌, ◌≤◌, Bool, true, false, not, ◌&&◌, ◌||◌, eqb, leb, ◌⊎◌, List, [], ◌∷◌, length, get_or, drop, Some, None, Option, sym, ap, ◌∙◌, inl, inr, arith, lit<, pow-add}
 use native.Mathlib.Nat.{pow-le-pow_right}
 use Rattle.std.proofs.lemmas.List.{at_drop_more, at_drop_all}
@@ -9,30 +9,10 @@ use Rattle.rows.specs.Fields.{scan}
 is_digit : (b : ℕ) → 48 ≤ b → b ≤ 57 → (leb 48 b && leb b 57) ≡ true
 is_digit b low high = and_from (leb 48 b) (leb b 57) (le-leb 48 b low) (le-leb b 57 high)
 
-no_digit : (b : ℕ) → (57 < b) ⊎ (b < 48) → (leb 48 b && leb b 57) ≡ false
-no_digit b (inl h) = and_right (leb 48 b) (leb b 57) (lt-leb b 57 h)
-no_digit b (inr h) = and_left (leb 48 b) (leb b 57) (lt-leb 48 b h)
-
 -- a digit, where one may stand
 pub at_digit : (begun : Bool) (v b : ℕ) (bs : List ℕ) → 48 ≤ b → b ≤ 57 → (begun && eqb v 0) ≡ false
     → scan begun v (b ∷ bs) ≡ scan true (v * 10 + (b - 48)) bs
 at_digit begun v b bs low high free = rw (is_digit b low high, scan, free, scan)
-
--- a digit after a first 0
-pub at_zero : (begun : Bool) (v b : ℕ) (bs : List ℕ) → begun ≡ true → v ≡ 0 → 48 ≤ b → b ≤ 57 → scan begun v (b ∷ bs) ≡ None
-at_zero begun v b bs is nought low high = rw (is_digit b low high, scan, is, nought)
-
--- a space before the digits
-pub at_space : (begun : Bool) (v b : ℕ) (bs : List ℕ) → begun ≡ false → b ≡ 32 → scan begun v (b ∷ bs) ≡ scan begun v bs
-at_space begun v b bs is e = rw (e, is)
-
--- another byte, or a space after a digit
-pub at_other : (begun : Bool) (v b : ℕ) (bs : List ℕ) → (57 < b) ⊎ (b < 48) → (begun ≡ true) ⊎ (b ≡ 32 → ⊥)
-    → scan begun v (b ∷ bs) ≡ None
-at_other begun v b bs out (inl is) = rw (no_digit b out, scan, is)
-at_other begun v b bs out (inr apart) =
-    let f : (begun || not (eqb b 32)) ≡ true = or_right begun (not (eqb b 32)) (ap not (ne_eqb b 32 apart)) in
-    rw (no_digit b out, scan, f, scan)
 
 -- the number so far: none until a digit came
 abbrev pub scan_from : Option ℕ → List ℕ → Option ℕ
