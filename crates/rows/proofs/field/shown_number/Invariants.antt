@@ -1,4 +1,3 @@
-use Rattle.std.proofs.Common.{◌≡◌, drop}
 use Rattle.rows.proofs.Scans.{ReadTo}
 use Rattle.rows.proofs.field.shown_number.Given as goal
 

@@ -1,5 +1,5 @@
-use Rattle.std.proofs.Common.{inl, inr, sym, ap, ◌∙◌, arith}
-use Rattle.rows.proofs.RowWriting.{FieldLeft, field_left, row_ends}
+use Rattle.std.proofs.Common.{inl, inr, arith}
+use Rattle.rows.proofs.RowWriting.{field_left, row_ends}
 use Rattle.rows.proofs.layout.Layout.write_fields.Goals as goal
 
 pub write_field-requires : goal.write_field-requires
