@@ -1,7 +1,6 @@
 -- One column of a row: its field where the bytes reach, no form where they run out.
-use Rattle.std.proofs.Common.{◌≡◌, ℕ, ◌+◌, ◌-◌, ◌<◌, ◌≤◌, List, length, take, drop, Err, Result, sym, ap, ◌∙◌, arith, length-drop}
+use Rattle.std.proofs.Common.{◌≡◌, ℕ, ◌<◌, ◌≤◌, List, length, take, Err}
 use Rattle.std.proofs.lemmas.Bool.{le-leb, lt-leb}
-use Rattle.rows.specs.declared.field.FieldFault.{FieldFault}
 use Rattle.rows.specs.declared.field.FieldFault.TheVariants.{Form}
 use Rattle.rows.specs.Fields.{field_read}
 use Rattle.rows.specs.Rows.{column_read}
@@ -11,14 +10,3 @@ short_column width limit bytes h = rw (lt-leb width (length bytes) h, column_rea
 
 pub whole_column : (width limit : ℕ) (bytes : List ℕ) → width ≤ length bytes → column_read width limit bytes ≡ field_read (take width bytes) limit
 whole_column width limit bytes h = rw (le-leb width (length bytes) h, column_read)
-
--- the column that stands at a place of a row
-module _ (width limit : ℕ) (row : List ℕ) (at : ℕ) where
-  pub column_short : length row - at < width → Err Form ≡ column_read width limit (drop at row)
-  column_short h = sym (short_column width limit (drop at row) (simp length-drop h))
-
-  pub column_whole : width ≤ length row - at → (r : Result ℕ FieldFault) → r ≡ field_read (take (at + width - at) (drop at row)) limit
-      → r ≡ column_read width limit (drop at row)
-  column_whole h r e =
-      let n : at + width - at ≡ width = omega arith in
-      e ∙ (ap (λ m. field_read (take m (drop at row)) limit) n ∙ sym (whole_column width limit (drop at row) (simp length-drop h)))

@@ -1,9 +1,9 @@
 -- Numbers within their columns' limits: the test column by column, and what it gives.
-use Rattle.std.proofs.Common.{◌≡◌, ℕ, zero, suc, ◌+◌, ◌^◌, ◌<◌, ◌≤◌, true, false, ◌&&◌, leb, List, [], ◌∷◌, length, get_or, drop, decimal, sym, ap, ◌∙◌, arith, lit<}
+use Rattle.std.proofs.Common.{◌≡◌, ℕ, ◌^◌, ◌<◌, ◌≤◌, true, ◌&&◌, leb, List, [], ◌∷◌, length, decimal, refl, ap, arith, lit<}
 use native.Mathlib.Nat.{pow-le-pow_right}
 use Rattle.std.proofs.lemmas.Fmt.{length-decimal-le}
-use Rattle.std.proofs.lemmas.List.{at_drop_more, at_drop_all}
-use Rattle.std.proofs.lemmas.Bool.{le-leb, lt-leb, leb-true, and_parts}
+use Rattle.std.proofs.lemmas.Bool.{leb-true, and_parts}
+use Rattle.std.specs.List.{list_all, zip}
 use Rattle.rows.specs.declared.column.Column.{Column}
 use Rattle.rows.specs.Columns.{Shape, shape, shapes}
 use Rattle.rows.specs.Rows.{Within, fits}
@@ -46,31 +46,9 @@ fits_within (s ∷ ss) (v ∷ vs) e =
     let p = and_parts (leb v s.limit) (fits ss vs) e in
     (leb-true v s.limit p.0, fits_within ss vs p.1)
 
-pub fits_at : (cs : List Column) (vs : List ℕ) (i : ℕ) (d : Column) → fits (shapes cs) vs ≡ true → i < length cs → i < length vs
-    → get_or vs i 0 ≤ (get_or cs i d).limit
-fits_at [] vs i d e h k = absurd (omega arith)
-fits_at (c ∷ cs) [] i d e h k = absurd (omega arith)
-fits_at (c ∷ cs) (v ∷ vs) zero d e h k = leb-true v c.limit (and_parts (leb v c.limit) (fits (shapes cs) vs) e).0
-fits_at (c ∷ cs) (v ∷ vs) (suc i) d e h k = fits_at cs vs i d (and_parts (leb v c.limit) (fits (shapes cs) vs) e).1 (omega arith) (omega arith)
-
--- the loop of the test, at column i
-module _ (cs : List Column) (vs : List ℕ) (i : ℕ) where
-  split : (d : Column) → i < length cs → i < length vs
-      → fits (shapes (drop i cs)) (drop i vs) ≡ (leb (get_or vs i 0) (get_or cs i d).limit && fits (shapes (drop (i + 1) cs)) (drop (i + 1) vs))
-  split d h k =
-      at_drop_more (λ x. fits (shapes x) (drop i vs)) cs i d h
-      ∙ at_drop_more (λ y. fits (shapes (get_or cs i d ∷ drop (i + 1) cs)) y) vs i 0 k
-
-  pub fits_turn : (d : Column) → i < length cs → i < length vs → get_or vs i 0 ≤ (get_or cs i d).limit
-      → fits (shapes (drop i cs)) (drop i vs) ≡ fits (shapes cs) vs → fits (shapes (drop (i + 1) cs)) (drop (i + 1) vs) ≡ fits (shapes cs) vs
-  fits_turn d h k low e =
-      sym (split d h k ∙ ap (λ t. t && fits (shapes (drop (i + 1) cs)) (drop (i + 1) vs)) (le-leb (get_or vs i 0) (get_or cs i d).limit low)) ∙ e
-
-  pub fits_stops : (d : Column) → i < length cs → i < length vs → (get_or cs i d).limit < get_or vs i 0
-      → fits (shapes (drop i cs)) (drop i vs) ≡ fits (shapes cs) vs → false ≡ fits (shapes cs) vs
-  fits_stops d h k high e =
-      sym (split d h k ∙ ap (λ t. t && fits (shapes (drop (i + 1) cs)) (drop (i + 1) vs)) (lt-leb (get_or vs i 0) (get_or cs i d).limit high)) ∙ e
-
-  pub fits_ends : length cs ≤ i → length vs ≤ i → fits (shapes (drop i cs)) (drop i vs) ≡ fits (shapes cs) vs → true ≡ fits (shapes cs) vs
-  fits_ends h k e =
-      sym (at_drop_all (λ x. fits (shapes x) (drop i vs)) cs i h ∙ at_drop_all (λ y. fits [] y) vs i k) ∙ e
+-- the test, column by column
+pub fits_zip : (cs : List Column) (vs : List ℕ) → length vs ≡ length cs → list_all (λ (p : ℕ × Column). leb p.0 p.1.limit) (zip vs cs) ≡ fits (shapes cs) vs
+fits_zip [] [] e = refl
+fits_zip [] (v ∷ vs) e = absurd (omega arith)
+fits_zip (c ∷ cs) [] e = absurd (omega arith)
+fits_zip (c ∷ cs) (v ∷ vs) e = ap (λ t. leb v c.limit && t) (fits_zip cs vs (omega arith))

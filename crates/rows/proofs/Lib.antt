@@ -4,7 +4,6 @@ pub mod Shows
 pub mod Columns
 pub mod Fitting
 pub mod Tables
-pub mod RowReading
 pub mod RowWriting
 pub mod RowLaws
 pub mod Layers

@@ -1,5 +1,5 @@
 -- Reading a field gives just the number that it shows.
-use Rattle.std.proofs.Common.{◌≡◌, ℕ, zero, suc, ◌+◌, ◌-◌, ◌*◌, ◌/◌, ◌%◌, ◌^◌, ◌<◌, ◌≤◌, Bool, true, false, cond, eqb, ◌⊎◌, List, [], ◌∷◌, ◌++◌, length, replicate, Some, None, Ok, Err, decimal, Option, Result, sym, refl, ap, ◌∙◌, subst, inl, inr, append_assoc, add-one, arith, lit<, length-append, pow-add}
+use Rattle.std.proofs.Common.{◌≡◌, ℕ, zero, suc, ◌+◌, ◌-◌, ◌*◌, ◌/◌, ◌%◌, ◌^◌, ◌<◌, ◌≤◌, Bool, true, false, cond, eqb, ◌⊎◌, List, [], ◌∷◌, ◌++◌, length, replicate, Some, None, Ok, Err, decimal, Option, Result, sym, refl, ap, ◌∙◌, inl, inr, append_assoc, add-one, arith, lit<, length-append, pow-add}
 use native.Mathlib.Nat.{pow-le-pow_right}
 use lib.ListN.{length-replicate}
 use Rattle.std.specs.Fmt.{digits, digits_onto, digit_glyph}
@@ -8,7 +8,7 @@ use Rattle.std.proofs.lemmas.List.{append-nil}
 use Rattle.std.proofs.lemmas.Bool.{cases_Bool, cases_lt, le-leb, lt-leb, ne_eqb}
 use Rattle.std.proofs.lemmas.Bool.Decides.{nat_tests}
 use Rattle.rows.specs.declared.field.FieldFault.{FieldFault}
-use Rattle.rows.specs.declared.field.FieldFault.TheVariants.{Form, Limit}
+use Rattle.rows.specs.declared.field.FieldFault.TheVariants.{Limit}
 use Rattle.rows.specs.Fields.{shown, scan, judged, field_read, FieldExact}
 use Rattle.rows.proofs.Scans.{at_digit, room_for_digit, one_digit_more}
 
@@ -146,23 +146,9 @@ judged_exact bs limit (Some v) short e =
     ]
 
 -- a reading is right
-pub field_exact : (bs : List ℕ) (limit : ℕ) → length bs ≤ 19 → FieldExact (length bs) bs limit (field_read bs limit)
-field_exact bs limit short = judged_exact bs limit (scan false 0 bs) short refl
+pub field_exact : (bs : List ℕ) (limit : ℕ) (r : Result ℕ FieldFault) → length bs ≤ 19 → r ≡ field_read bs limit → FieldExact (length bs) bs limit r
+field_exact bs limit r short e = rw e (judged_exact bs limit (scan false 0 bs) short refl)
 
 -- a number that is shown and within the limit is read
 pub field_back : (w v limit : ℕ) → v < 2 ^ 64 → v ≤ limit → field_read (shown w v) limit ≡ Ok v
 field_back w v limit small h = ap (judged limit) (scan_shown w v small) ∙ judged_within v limit h
-
--- the answers of the reader, with their promise
-module _ (bs : List ℕ) (limit : ℕ) (short : length bs ≤ 19) where
-  answered : (r : Result ℕ FieldFault) → r ≡ field_read bs limit → (r ≡ field_read bs limit) × FieldExact (length bs) bs limit r
-  answered r e = (e, subst (λ a. FieldExact (length bs) bs limit a) (sym e) (field_exact bs limit short))
-
-  pub no_form : scan false 0 bs ≡ None → (Err Form ≡ field_read bs limit) × FieldExact (length bs) bs limit (Err Form)
-  no_form e = answered (Err Form) (rw e)
-
-  pub past_limit : (v : ℕ) → scan false 0 bs ≡ Some v → limit < v → (Err Limit ≡ field_read bs limit) × FieldExact (length bs) bs limit (Err Limit)
-  past_limit v e h = answered (Err Limit) (sym (ap (judged limit) e ∙ judged_past v limit h))
-
-  pub in_limit : (v : ℕ) → scan false 0 bs ≡ Some v → v ≤ limit → (Ok v ≡ field_read bs limit) × FieldExact (length bs) bs limit (Ok v)
-  in_limit v e h = answered (Ok v) (sym (ap (judged limit) e ∙ judged_within v limit h))

@@ -64,7 +64,7 @@ column_exact s ok row =
           (λ v is. let n = ap length is in let t = length-take s.width row in omega (arith, (length_shown_ge s.width v).0))
       | inr room ↦
           let n : length (take s.width row) ≡ s.width = length-take-le s.width row room in
-          let x = field_exact (take s.width row) s.limit (omega (arith, ok.narrow)) in
+          let x = field_exact (take s.width row) s.limit _ (omega (arith, ok.narrow)) refl in
           rw (whole_column s.width s.limit row room) (subst (λ m. FieldExact m (take s.width row) s.limit (field_read (take s.width row) s.limit)) n x)
     ]
 

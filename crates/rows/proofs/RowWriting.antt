@@ -1,12 +1,14 @@
 -- Writing a row field by field: the turns of the writer's loop.
-use Rattle.std.proofs.Common.{◌≡◌, ℕ, zero, suc, ◌+◌, ◌-◌, ◌<◌, ◌≤◌, List, [], ◌∷◌, ◌++◌, length, get_or, take, drop, set, replicate, decimal, sym, refl, ap, ◌∙◌, append_assoc, arith, length-append, length-drop}
+use Rattle.std.proofs.Common.{◌≡◌, ℕ, suc, ◌+◌, ◌-◌, ◌≤◌, true, leb, ◌⊎◌, List, [], ◌∷◌, ◌++◌, length, take, drop, set, replicate, decimal, sym, ap, ◌∙◌, inl, inr, append_assoc, arith, length-append, length-drop}
 use borrow.Rule.Slice.PartMut.{put_mid}
 use lib.ListN.{length-replicate}
-use Rattle.std.proofs.lemmas.List.{append-nil, take_at, drop_at, drop-drop, drop_all, take_all, set_split, length-take-le}
+use Rattle.std.proofs.lemmas.List.{take_at, drop_at, drop-drop, drop_all, set_split, length-take-le}
+use Rattle.std.proofs.lemmas.Bool.{leb-true, and_parts}
 use Rattle.rows.specs.declared.column.Column.{Column}
 use Rattle.rows.specs.Fields.{shown}
-use Rattle.rows.specs.Columns.{shapes, widths}
-use Rattle.rows.specs.Rows.{fields_shown, row_shown}
+use Rattle.rows.specs.Columns.{shape, shapes, widths}
+use Rattle.rows.specs.Rows.{fields_shown, row_shown, fits}
+use Rattle.rows.proofs.Fitting.{column_sound, digits_fit}
 
 pub length_shown : (w v : ℕ) → length (decimal v) ≤ w → length (shown w v) ≡ w
 length_shown w v h =
@@ -31,70 +33,49 @@ part_written buf s at n =
 pub part_length : (buf : List ℕ) (at n : ℕ) → at + n ≤ length buf → length (take (at + n - at) (drop at buf)) ≡ n
 part_length buf at n h = length-take-le (at + n - at) (drop at buf) (simp length-drop (omega arith)) ∙ (let k : at + n - at ≡ n = omega arith in k)
 
-fields_more : (cs : List Column) (vs : List ℕ) (i : ℕ) (d : Column) → i < length cs → i < length vs
-    → fields_shown (shapes (take i cs)) (take i vs) ++ shown (get_or cs i d).width (get_or vs i 0) ≡ fields_shown (shapes (take (i + 1) cs)) (take (i + 1) vs)
-fields_more [] vs i d h k = absurd (omega arith)
-fields_more (c ∷ cs) [] i d h k = absurd (omega arith)
-fields_more (c ∷ cs) (v ∷ vs) zero d h k = sym (append-nil (shown c.width v))
-fields_more (c ∷ cs) (v ∷ vs) (suc i) d h k =
-    let n : suc i + 1 ≡ suc (i + 1) = omega arith in
-    rw n (append_assoc (shown c.width v) (fields_shown (shapes (take i cs)) (take i vs)) (shown (get_or cs i d).width (get_or vs i 0))
-    ∙ ap (λ t. shown c.width v ++ t) (fields_more cs vs i d (omega arith) (omega arith)))
+-- the loop with the columns and numbers that are left: what stands before `at`, with their row after it, is the whole row
+pub record RowLeft (cs : List Column) (vs whole out : List ℕ) (at : ℕ) : Type 0 where
+  pub is : take at out ++ row_shown (shapes cs) vs ≡ whole
+  pub room : at + widths (shapes cs) + 1 ≡ length out
+  pub within : fits (shapes cs) vs ≡ true
 
-widths_more : (cs : List Column) (i : ℕ) (d : Column) → i < length cs → widths (shapes (take i cs)) + (get_or cs i d).width ≡ widths (shapes (take (i + 1) cs))
-widths_more [] i d h = absurd (omega arith)
-widths_more (c ∷ cs) zero d h = omega arith
-widths_more (c ∷ cs) (suc i) d h =
-    let n : suc i + 1 ≡ suc (i + 1) = omega arith in
-    let m = widths_more cs i d (omega arith) in
-    rw n (omega arith)
+-- the next field: it has room for the digits of its number, and it is written
+pub record FieldLeft (c : Column) (cs : List Column) (v : ℕ) (vs whole out : List ℕ) (at : ℕ) : Type 0 where
+  pub room : at + c.width ≤ length out
+  pub long : length (take (at + c.width - at) (drop at out)) ≡ c.width
+  pub digits : length (decimal v) ≤ c.width
+  pub then : (part : List ℕ) → part ≡ shown c.width v → RowLeft cs vs whole (put_mid at (at + c.width - at) out part) (at + c.width)
 
-widths_take : (cs : List Column) (n : ℕ) → widths (shapes (take n cs)) ≤ widths (shapes cs)
-widths_take cs zero = omega arith
-widths_take [] (suc n) = omega arith
-widths_take (c ∷ cs) (suc n) = let m = widths_take cs n in omega arith
+pub field_left : (ds cs : List Column) (ws vs whole out : List ℕ) (at : ℕ) (c : Column) (v : ℕ) → RowLeft ds ws whole out at → ds ≡ c ∷ cs → ws ≡ v ∷ vs
+    → FieldLeft c cs v vs whole out at
+field_left ds cs ws vs whole out at c v st e f =
+    let left : RowLeft (c ∷ cs) (v ∷ vs) whole out at = rw (← e, ← f) st in
+    let w = c.width in
+    let p = and_parts (leb v c.limit) (fits (shapes cs) vs) left.within in
+    let room : at + w ≤ length out = omega (arith, left.room) in
+    let digits = digits_fit (shape w c.limit) (column_sound c) v (leb-true v c.limit p.0) in
+    record {
+      room = room;
+      long = part_length out at w room;
+      digits = digits;
+      then = λ part is.
+          let new : put_mid at (at + w - at) out part ≡ take at out ++ (shown w v ++ drop (at + w) out) = part_written out part at w ∙ ap (λ t. take at out ++ (t ++ drop (at + w) out)) is in
+          let front : length (take at out ++ shown w v) ≡ at + w = length-append (take at out) (shown w v) ∙ omega (arith, length-take-le at out (omega arith), length_shown w v digits) in
+          record {
+            is = ap (λ t. take (at + w) t ++ row_shown (shapes cs) vs) (new ∙ sym (append_assoc (take at out) (shown w v) (drop (at + w) out)))
+                ∙ (ap (λ t. t ++ row_shown (shapes cs) vs) (take_at (take at out ++ shown w v) (drop (at + w) out) (at + w) front)
+                ∙ (append_assoc (take at out) (shown w v) (row_shown (shapes cs) vs)
+                ∙ (ap (λ t. take at out ++ t) (sym (append_assoc (shown w v) (fields_shown (shapes cs) vs) (10 ∷ []))) ∙ left.is)));
+            room = omega (arith, left.room, ap length new, length-append (take at out) (shown w v ++ drop (at + w) out), length-append (shown w v) (drop (at + w) out), length-append (take at out) (shown w v), front, length-drop (at + w) out);
+            within = p.1;
+          };
+    }
 
--- the loop at column i: the fields before it stand at the front, and what lies after them is as it was
-pub record FieldsWritten (cs : List Column) (vs old out : List ℕ) (i at : ℕ) : Type 0 where
-  pub is : out ≡ fields_shown (shapes (take i cs)) (take i vs) ++ drop at old
-  pub long : length (fields_shown (shapes (take i cs)) (take i vs)) ≡ at
-  pub place : at ≡ widths (shapes (take i cs))
-
-pub fields_none : (cs : List Column) (vs old : List ℕ) → FieldsWritten cs vs old old 0 0
-fields_none cs vs old = record { is = refl; long = refl; place = refl }
-
-module _ (cs : List Column) (vs old out : List ℕ) (i at : ℕ) (st : FieldsWritten cs vs old out i at) where
-  -- the next field has room
-  pub field_room : (d : Column) → i < length cs → at + (get_or cs i d).width ≤ widths (shapes cs)
-  field_room d h =
-      let m = widths_more cs i d h in
-      let t = widths_take cs (i + 1) in
-      omega (arith, st.place)
-
-  pub write_turn : (d : Column) (part : List ℕ) → i < length cs → i < length vs → at + (get_or cs i d).width ≤ length out
-      → part ≡ shown (length (take (at + (get_or cs i d).width - at) (drop at out))) (get_or vs i 0) → length (decimal (get_or vs i 0)) ≤ (get_or cs i d).width
-      → FieldsWritten cs vs old (put_mid at (at + (get_or cs i d).width - at) out part) (i + 1) (at + (get_or cs i d).width)
-  write_turn d part h k room e fit =
-      let w = (get_or cs i d).width in
-      let v = get_or vs i 0 in
-      let p : part ≡ shown w v = e ∙ ap (λ n. shown n v) (part_length out at w room) in
-      let more = fields_more cs vs i d h k in
-      record {
-        is = part_written out part at w ∙ (ap (λ t. take at out ++ (t ++ drop (at + w) out)) p
-            ∙ (grow out old (fields_shown (shapes (take i cs)) (take i vs)) (shown w v) at (at + w) st.is st.long (omega arith) ∙ ap (λ t. t ++ drop (at + w) old) more));
-        long = sym (ap length more) ∙ (length-append (fields_shown (shapes (take i cs)) (take i vs)) (shown w v) ∙ (let a = length_shown w v fit in let b = st.long in omega arith));
-        place = ap (λ n. n + w) st.place ∙ widths_more cs i d h;
-      }
-
-  -- the newline after the last field
-  pub write_ends : length cs ≤ i → length vs ≤ i → length out ≡ widths (shapes cs) + 1 → set out at 10 ≡ row_shown (shapes cs) vs
-  write_ends h k room =
-      let front = fields_shown (shapes (take i cs)) (take i vs) in
-      let n : at ≡ widths (shapes cs) = st.place ∙ ap (λ t. widths (shapes t)) (take_all i cs h) in
-      let f : front ≡ fields_shown (shapes cs) vs = ap (λ t. fields_shown (shapes t) (take i vs)) (take_all i cs h) ∙ ap (fields_shown (shapes cs)) (take_all i vs k) in
-      let t : take at out ≡ front = ap (take at) st.is ∙ take_at front (drop at old) at st.long in
-      let e : drop (suc at) out ≡ [] = drop_all (suc at) out (omega arith) in
-      set_split out at 10 (omega arith) ∙ (ap (λ y. y ++ 10 ∷ drop (suc at) out) (t ∙ f) ∙ ap (λ y. fields_shown (shapes cs) vs ++ 10 ∷ y) e)
-
-  pub newline_place : length cs ≤ i → at ≡ widths (shapes cs)
-  newline_place h = st.place ∙ ap (λ t. widths (shapes t)) (take_all i cs h)
+-- no field is left: the newline ends the row
+pub row_ends : (cs : List Column) (vs whole out : List ℕ) (at : ℕ) → RowLeft cs vs whole out at → (length cs ≡ 0) ⊎ (length vs ≡ 0) → set out at 10 ≡ whole
+row_ends (c ∷ cs) (v ∷ vs) whole out at st (inl e) = absurd (omega arith)
+row_ends (c ∷ cs) (v ∷ vs) whole out at st (inr e) = absurd (omega arith)
+row_ends [] (v ∷ vs) whole out at st e = let w = st.within in let z : ◌≡◌ {A = ℕ} 0 1 = cc in absurd (omega arith)
+row_ends (c ∷ cs) [] whole out at st e = let w = st.within in let z : ◌≡◌ {A = ℕ} 0 1 = cc in absurd (omega arith)
+row_ends [] [] whole out at st e =
+    set_split out at 10 (omega (arith, st.room)) ∙ (ap (λ t. take at out ++ 10 ∷ t) (drop_all (suc at) out (omega (arith, st.room))) ∙ st.is)

@@ -43,10 +43,7 @@ impl From<StepFault> for RowFault {
 pub fn at_number<T, E>(number: u32, r: Result<T, E>) -> Result<T, Numbered<E>>
     ensures { result ≡ numbered_answer number r }
 {
-    match r {
-        Ok(v) => Ok(v),
-        Err(fault) => Err(Numbered { number, fault }),
-    }
+    r.map_err(|fault| Numbered { number, fault })
 }
 
 impl Refused for FieldFault {

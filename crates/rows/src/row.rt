@@ -1,5 +1,5 @@
 // Rows: one reader and one writer for every layout.
-ghost use Rattle.std.specs.Prelude.{◌≡◌, ℕ, ◌≤◌, true, length, drop};
+ghost use Rattle.std.specs.Prelude.{◌≡◌, ℕ, ◌≤◌, true, length, drop, MatchResult};
 ghost use Rattle.rows.specs.Columns.{shapes};
 ghost use Rattle.rows.specs.Rows.{column_read, row_read, row_shown, RowExact, RowRefused, fits, write_answer, Written};
 
@@ -12,15 +12,15 @@ use super::layout::Layout;
 #[derive(Clone, Copy, PartialEq, Eq, Debug)]
 pub struct Misfit;
 
-// The field that a column has at `at`; where the bytes run out it has no form.
-fn read_column(column: Column, row: &[u8], at: usize) -> Result<u64, FieldFault>
-    requires { at ≤ length row.now }
-    ensures { result ≡ column_read column.width column.limit (drop at row.now) }
+// The field of a column at the front of the bytes, and the bytes after it; where they run out it has no form.
+fn read_column(column: Column, bytes: &[u8]) -> Result<(u64, &[u8]), FieldFault>
+    ensures { MatchResult result (λ p. (column_read column.width column.limit bytes.now ≡ Ok p.0) × (p.1.now ≡ drop column.width bytes.now)) (λ f. column_read column.width column.limit bytes.now ≡ Err f) }
 {
-    if row.len() - at < column.width {
-        return Err(FieldFault::Form);
-    }
-    read_field(&row[at..at + column.width], column.limit)
+    let (field, rest) = bytes
+        .split_at_checked(column.width)
+        .ok_or(FieldFault::Form)?;
+    let value = read_field(field, column.limit)?;
+    Ok((value, rest))
 }
 
 impl<const N: usize> Layout<N> {
@@ -31,16 +31,15 @@ impl<const N: usize> Layout<N> {
         ensures refused { RowRefused self.now.first (shapes self.now.columns) row.now result }
     {
         let mut values = [0; N];
-        let mut at = 0;
-        for i in 0..N {
-            let column = self.columns[i];
-            values[i] = at_number(self.first + i as u32, read_column(column, row, at))?;
-            at += column.width;
+        let mut rest = row;
+        for (i, column) in self.columns.iter().enumerate() {
+            let number = self.first + i as u32;
+            (values[i], rest) = at_number(number, read_column(*column, rest))?;
         }
-        if row.len() - at != 1 || row[at] != b'\n' {
-            return Err(RowFault::Newline);
+        match rest {
+            [b'\n'] => Ok(values),
+            _ => Err(RowFault::Newline),
         }
-        Ok(values)
     }
 
     // Whether each number is within its column's limit.
@@ -48,12 +47,10 @@ impl<const N: usize> Layout<N> {
         requires { length values.now ≡ N }
         ensures { result ≡ fits (shapes self.now.columns) values.now }
     {
-        for i in 0..N {
-            if values[i] > self.columns[i].limit {
-                return false;
-            }
-        }
-        true
+        values
+            .iter()
+            .zip(&self.columns)
+            .all(|(value, column)| *value <= column.limit)
     }
 
     // Writes the fields one after another, and the newline.
@@ -64,10 +61,10 @@ impl<const N: usize> Layout<N> {
         ensures { out.new ≡ row_shown (shapes self.now.columns) values.now }
     {
         let mut at = 0;
-        for i in 0..N {
-            let width = self.columns[i].width;
-            write_field(&mut out[at..at + width], values[i]);
-            at += width;
+        for (column, value) in self.columns.iter().zip(values) {
+            let next = at + column.width;
+            write_field(&mut out[at..next], *value);
+            at = next;
         }
         out[at] = b'\n';
     }

@@ -9,21 +9,13 @@ use Rattle.rows.specs.declared.fault.RowFault.TheVariants.{Order}
 use Rattle.rows.specs.Columns.{list_row}
 use Rattle.rows.specs.Rows.{Within, row_read, row_shown}
 use Rattle.text.specs.Lists.{numbers_of, reply_shown, reply_of, ordered, reply_from, last_asked, onto, list_step, ReplyRefused}
-use Rattle.rows.proofs.Fitting.{AllSound, sound_shape}
+use Rattle.rows.proofs.Fitting.{AllSound}
+use Rattle.rows.proofs.Tables.{sound_table, row_placed}
 use Rattle.rows.proofs.RowLaws.{length_row, row_back, row_shown_is, first_fault}
 use Rattle.text.proofs.FileLaws.{Kind}
 
 pub list_sound : AllSound list_row
-list_sound = (
-  sound_shape 10 1000000000 (omega arith) (omega arith) (lit< tt),
-  (
-    sound_shape 2 7 (omega arith) (omega arith) (lit< tt),
-    (
-      sound_shape 11 1000000000 (omega arith) (omega arith) (lit< tt),
-      (sound_shape 11 4294967295 (omega arith) (omega arith) (lit< tt), tt),
-    ),
-  ),
-)
+list_sound = sound_table list_row refl
 
 -- a reply that may follow the replies before it, with a row of its own
 abbrev pub ReplyFits : List (Reply ℕ) → Reply ℕ → Type 0
@@ -40,12 +32,7 @@ reply_back rs r f =
 
 -- the numbers of a row within the limits are those of its reply
 numbers_back : (vs : List ℕ) → Within list_row vs → vs ≡ numbers_of (reply_of vs)
-numbers_back [] w = absurd w
-numbers_back (a ∷ []) w = absurd w.1
-numbers_back (a ∷ b ∷ []) w = absurd w.1.1
-numbers_back (a ∷ b ∷ c ∷ []) w = absurd w.1.1.1
-numbers_back (a ∷ b ∷ c ∷ d ∷ []) w = refl
-numbers_back (a ∷ b ∷ c ∷ d ∷ e ∷ vs) w = absurd w.1.1.1.1
+numbers_back vs w = row_placed list_row vs w
 
 ordered_so : (last : ℕ) (q r : Reply ℕ) → ordered last q ≡ Ok r → (q ≡ r) × (last ≤ q.asked) × (q.asked ≤ q.ready)
 ordered_so last q r e =

@@ -70,8 +70,7 @@ fn check_list(records: &[Reply<u32>]) -> Result<(), FileFault>
         return Err(FileFault::Size);
     }
     let mut last = 0;
-    for i in 0..records.len() {
-        let reply = records[i];
+    for (i, reply) in records.iter().enumerate() {
         if !reply.follows(last) {
             return Err(FileFault::Row(Numbered {
                 number: i as u32 + 1,
@@ -115,9 +114,9 @@ pub fn write_list(records: &[Reply<u32>], out: &mut [u8]) -> Result<usize, ListF
     if size > out.len() {
         return Err(ListFault::Room);
     }
-    for i in 0..records.len() {
+    for (i, reply) in records.iter().enumerate() {
         let start = width * i;
-        write_reply(records[i], &mut out[start..start + width]);
+        write_reply(*reply, &mut out[start..start + width]);
     }
     Ok(size)
 }

@@ -30,12 +30,9 @@ impl NoStep {
 pub fn pair<B: Copy>(records: &[Reply<B>], steps: &Steps) -> Result<(), NoStep>
     ensures { result ≡ pair_answer (ladders_of steps.now) (take 50000 records.now) }
 {
-    let count = records.len().min(MOST_REPLIES);
-    for i in 0..count {
-        let reply = records[i];
-        if !steps.has_step(reply.class) {
-            return Err(NoStep { row: i as u32 + 1 });
-        }
+    let lacks_step = |reply: &Reply<B>| !steps.has_step(reply.class);
+    match records.iter().take(MOST_REPLIES).position(lacks_step) {
+        Some(i) => Err(NoStep { row: i as u32 + 1 }),
+        None => Ok(()),
     }
-    Ok(())
 }

@@ -6,15 +6,6 @@ use Rattle.rows.proofs.Shows.{last_byte, ShownFrom, shown_begun, shown_more, sho
 use Rattle.rows.proofs.field.write_field.Goals as goal
 use Rattle.rows.proofs.field.write_field.Goals.{then-left-gt0, else-left-gt0}
 
-pub overflow_sub-out : goal.overflow_sub-out
-overflow_sub-out c = omega (arith, decimal_nonempty c.args.value (omega arith))
-
-pub bounds-out-n : goal.bounds-out-n
-bounds-out-n c = omega (arith, decimal_nonempty c.args.value (omega arith))
-
-pub overflow_sub-i : goal.overflow_sub-i
-overflow_sub-i c = omega (arith, decimal_nonempty c.args.value (omega arith))
-
 pub loop-i-init : goal.loop-i-init
 loop-i-init c =
     let some : 0 < length (decimal c.args.value) = decimal_nonempty c.args.value (omega arith) in

@@ -1,12 +1,14 @@
-use Rattle.std.proofs.Common.{arith}
-use Rattle.rows.proofs.Fitting.{fits_turn, fits_stops, fits_ends}
+use Rattle.std.proofs.Common.{ℕ, rules, leb, ◌∙◌, arith}
+use borrow.Author.Tests.{tests}
+use Rattle.std.proofs.lemmas.Iterator.{YieldsList-from_slice, YieldsList-from_zip}
+use Rattle.std.proofs.lemmas.Iterator.Search.{all_from_yields_List}
+use Rattle.rows.specs.declared.column.Column.{Column}
+use Rattle.rows.proofs.Fitting.{fits_zip}
 use Rattle.rows.proofs.layout.Layout.fits.Goals as goal
 
-pub returns-then-values-i : goal.returns-then-values-i
-returns-then-values-i g c = fits_stops c.args.self.now.columns c.args.values.now c.loop-i.i c.index-self-i.result (omega arith) (omega arith) c.if-values-i.true c.loop-i.invariant
-
-pub loop-i-preserved : goal.loop-i-preserved
-loop-i-preserved g c = fits_turn c.args.self.now.columns c.args.values.now c.loop-i.i c.index-self-i.result (omega arith) (omega arith) c.if-values-i.false c.loop-i.invariant
-
 pub returns : goal.returns
-returns g c = fits_ends c.args.self.now.columns c.args.values.now c.loop-i.i (omega arith) (omega arith) c.loop-i.invariant
+returns g c =
+    let t = c.args.self.now in
+    all_from_yields_List (λ (p : ℕ × Column). leb p.0 p.1.limit) c.all.new.self _ _ c.all.ensures.ran
+    (YieldsList-from_zip (YieldsList-from_slice c.args.values.now cc) (YieldsList-from_slice t.columns cc)) (λ x b q k. search (rules, tests))
+    ∙ fits_zip t.columns c.args.values.now (omega (arith, t.sized))
