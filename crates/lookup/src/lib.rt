@@ -24,19 +24,27 @@ impl Refused for NoRow {
 fn within(row: PageRow, t1: u32, t2: u32) -> bool
     ensures { result ≡ within t1 t2 row }
 {
-    t1 <= row.release && row.release <= t2
+    (t1..=t2).contains(&row.release)
 }
 
 // The number, from 1, of the lowest row that was released from t1 to t2.
 fn lowest(rows: &[PageRow], t1: u32, t2: u32) -> Result<usize, NoRow>
     ensures { MatchResult result (Lowest t1 t2 rows.now) (λ _. NoneLies t1 t2 rows.now) }
 {
-    for i in 0..rows.len() {
-        if within(rows[i], t1, t2) {
-            return Ok(i + 1);
-        }
-    }
-    Err(NoRow)
+    rows.iter()
+        .position(|row| within(*row, t1, t2))
+        .map(|i| i + 1)
+        .ok_or(NoRow)
+}
+
+// The number, from 1, of the highest row that was released from t1 to t2.
+fn highest(rows: &[PageRow], t1: u32, t2: u32) -> Result<usize, NoRow>
+    ensures { MatchResult result (Highest t1 t2 rows.now) (λ _. NoneLies t1 t2 rows.now) }
+{
+    rows.iter()
+        .rposition(|row| within(*row, t1, t2))
+        .map(|i| i + 1)
+        .ok_or(NoRow)
 }
 
 // The number, from 1, of some row that was released from t1 to t2.
@@ -50,12 +58,5 @@ pub fn find(rows: &[PageRow], t1: u32, t2: u32) -> Result<usize, NoRow>
 pub fn span(rows: &[PageRow], t1: u32, t2: u32) -> Result<(usize, usize), NoRow>
     ensures { MatchResult result (λ p. Lowest t1 t2 rows.now p.0 × Highest t1 t2 rows.now p.1) (λ _. NoneLies t1 t2 rows.now) }
 {
-    let low = lowest(rows, t1, t2)?;
-    let mut high = low;
-    for i in low..rows.len() {
-        if within(rows[i], t1, t2) {
-            high = i + 1;
-        }
-    }
-    Ok((low, high))
+    Ok((lowest(rows, t1, t2)?, highest(rows, t1, t2)?))
 }

@@ -96,14 +96,7 @@ fn write_row(line: &mut [u8], number: u32, row: PageRow)
     requires misses { row.misses ≤ 29 }
     ensures { line.new ≡ row_bytes number row }
 {
-    let values = [
-        number as u64,
-        row.asked as u64,
-        row.class as u64,
-        row.release as u64,
-        row.misses as u64,
-    ];
-    let Ok(()) = PAGE_ROW.write(&values, line) else {
+    let Ok(()) = PAGE_ROW.write(&row.numbers(number), line) else {
         unreachable()
     };
 }
@@ -117,15 +110,8 @@ fn write_foot(line: &mut [u8], foot: Foot)
     requires misses { foot.misses ≤ 9999 }
     ensures { line.new ≡ foot_bytes foot }
 {
-    let values = [
-        foot.rows as u64,
-        foot.clock as u64,
-        foot.classes as u64,
-        foot.bits as u64,
-        foot.misses as u64,
-    ];
     line[0] = b'=';
-    let Ok(()) = FOOT.write(&values, &mut line[1..36]) else {
+    let Ok(()) = FOOT.write(&foot.numbers(), &mut line[1..LINE]) else {
         unreachable()
     };
 }

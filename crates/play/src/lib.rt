@@ -37,8 +37,8 @@ pub fn play<S: Source, P: Pace, R: Penalty>(
     ensures same { rules_in P.Pace R.Penalty gate.new ≡ rules_in P.Pace R.Penalty gate.old }
 {
     let count = requests.len().min(events.len());
-    for i in 0..count {
-        events[i] = ask(gate, requests[i]);
+    for (i, request) in requests[..count].iter().enumerate() {
+        events[i] = ask(gate, *request);
     }
     count
 }

@@ -60,11 +60,10 @@ impl Account {
         if !self.admits(row) {
             return Err(PageFault::Order);
         }
-        if self.has_room(room) {
-            Ok(())
-        } else {
-            Err(PageFault::Room)
+        if !self.has_room(room) {
+            return Err(PageFault::Room);
         }
+        Ok(())
     }
 
     // The account with one row more, in a buffer of so many bytes, or why the page does not take the row.
@@ -76,11 +75,11 @@ impl Account {
         occurs[row.class as usize] = true;
         Ok(Account {
             tally: Tally {
-                opening: self.tally.opening,
                 rows: self.tally.rows + 1,
                 clock: row.release,
                 misses: self.tally.misses + row.misses,
                 occurs,
+                ..self.tally
             },
         })
     }
@@ -91,15 +90,19 @@ impl Account {
         ensures classes { result.classes ≤ 8 }
         ensures bound { (rs : List PageRow) → self.now.tally ≡ tallied self.now.tally.opening rs → Bounds (P.Pace.quanta quanta.now) self.now.tally.opening rs result.clock result.bits }
     {
-        let tally = self.tally;
-        let span = tally.clock - tally.opening;
-        let bits = row_bits(tally.rows) * exponent(quanta, &tally.occurs, span);
+        let Tally {
+            opening,
+            rows,
+            clock,
+            misses,
+            occurs,
+        } = self.tally;
         Foot {
-            rows: tally.rows,
-            clock: tally.clock,
-            classes: marked(&tally.occurs),
-            bits,
-            misses: tally.misses,
+            rows,
+            clock,
+            classes: marked(&occurs),
+            bits: row_bits(rows) * exponent(quanta, &occurs, clock - opening),
+            misses,
         }
     }
 }

@@ -13,13 +13,7 @@ fn most_misses(quantum: u32, span: u32) -> u32
     ensures most { Most quantum span result }
     ensures few { result ≤ 29 }
 {
-    let mut n = 0;
-    let mut power = 1;
-    while quantum as u64 * (2 * power - 1) <= span as u64 {
-        power *= 2;
-        n += 1;
-    }
-    n
+    (span / quantum + 1).ilog2()
 }
 
 // The least b with 2^b at least rows + 1.
@@ -28,13 +22,7 @@ pub(crate) fn row_bits(rows: u32) -> u32
     ensures value { result ≡ row_bits rows }
     ensures few { result ≤ 16 }
 {
-    let mut b = 0;
-    let mut power = 1;
-    while power < rows + 1 {
-        power *= 2;
-        b += 1;
-    }
-    b
+    u32::BITS - rows.leading_zeros()
 }
 
 // What a class adds to the exponent: its most misses in the span if it occurs.
@@ -60,8 +48,8 @@ pub(crate) fn exponent<P: Pace>(quanta: &P, occurs: &[bool; 8], span: u32) -> u3
     ensures few { result ≤ 233 }
 {
     let mut e = 1;
-    for class in 0..8u8 {
-        e += share(quanta, class, occurs[class as usize], span);
+    for (class, mark) in occurs.iter().enumerate() {
+        e += share(quanta, class as u8, *mark, span);
     }
     e
 }
@@ -71,11 +59,5 @@ pub(crate) fn marked(occurs: &[bool; 8]) -> u32
     ensures value { result ≡ count occurs.now }
     ensures few { result ≤ 8 }
 {
-    let mut n = 0;
-    for mark in occurs {
-        if *mark {
-            n += 1;
-        }
-    }
-    n
+    occurs.iter().filter(|mark| **mark).count() as u32
 }

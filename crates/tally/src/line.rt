@@ -1,4 +1,5 @@
 // The rows of a page: one for each release, and the foot.
+ghost use Rattle.std.specs.Prelude.{◌≡◌, [], ◌∷◌};
 ghost use Rattle.tally.specs.Refusals.{page_fault_code};
 
 use source::refusal::{Code, Refused};
@@ -18,6 +19,21 @@ pub struct PageRow {
     pub misses: u32,
 }
 
+impl PageRow {
+    // The numbers of its line, of which the row's own number is the first.
+    pub fn numbers(&self, number: u32) -> [u64; 5]
+        ensures { result ≡ number ∷ self.now.asked ∷ self.now.«class» ∷ self.now.release ∷ self.now.misses ∷ [] }
+    {
+        [
+            u64::from(number),
+            u64::from(self.asked),
+            u64::from(self.class),
+            u64::from(self.release),
+            u64::from(self.misses),
+        ]
+    }
+}
+
 // The foot: the number of rows, the last release or else the opening, the number of classes that occur, the bits that
 // the timing of the page can tell at most, and the misses of all rows.
 #[derive(Clone, Copy, PartialEq, Eq, Debug)]
@@ -27,6 +43,21 @@ pub struct Foot {
     pub classes: u32,
     pub bits: u32,
     pub misses: u32,
+}
+
+impl Foot {
+    // The numbers of its line, after the "=".
+    pub fn numbers(&self) -> [u64; 5]
+        ensures { result ≡ self.now.rows ∷ self.now.clock ∷ self.now.classes ∷ self.now.bits ∷ self.now.misses ∷ [] }
+    {
+        [
+            u64::from(self.rows),
+            u64::from(self.clock),
+            u64::from(self.classes),
+            u64::from(self.bits),
+            u64::from(self.misses),
+        ]
+    }
 }
 
 // Why a page took no row, or could not be begun or closed: the class is above 7; the row breaks the order or its

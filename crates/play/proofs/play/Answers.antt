@@ -1,4 +1,5 @@
-use Rattle.std.proofs.Common.{◌≡◌, refl, ◌∙◌, subst, arith}
+use Rattle.std.proofs.Common.{◌≡◌, length, take, refl, ◌∙◌, subst, arith}
+use Rattle.std.proofs.lemmas.List.{length-take-le, get_or-take}
 use Rattle.promise.specs.Rules.{Rules}
 use Rattle.promise.specs.Runs.{Call, Played}
 use Rattle.gate.specs.Gates.{view_of}
@@ -11,17 +12,20 @@ loop-i-init g c = (refl, playing_none _ _ _ _)
 pub loop-i-preserved : goal.loop-i-preserved
 loop-i-preserved g c =
     let i = c.loop-i.invariant in
-    let e = c.ask.ensures in (
+    let e = c.ask.ensures in
+    let n : length (take c.min-count.result c.args.requests.now) ≡ c.min-count.result
+    = length-take-le c.min-count.result c.args.requests.now (omega (arith, c.min-count.ensures)) in (
       e.same ∙ i.0,
-      playing_more _ _ _ _ _ _ _ i.1 _ _ _ (omega arith) (omega arith)
-          (subst (λ (m : Rules). Call m (view_of g.S.Source c.loop-i.gate) c.ask.result (view_of g.S.Source c.ask.new.gate)) i.0 e.call) e.asked,
+      playing_more _ _ _ _ _ _ _ i.1 _ _ _ (omega (arith, n, c.min-count.ensures)) (omega (arith, n, c.min-count.ensures))
+          (subst (λ (m : Rules). Call m (view_of g.S.Source c.loop-i.gate) c.ask.result (view_of g.S.Source c.ask.new.gate)) i.0 e.call)
+          (e.asked ∙ get_or-take c.min-count.result c.args.requests.now c.loop-i.i _ (omega (arith, n))),
     )
 
 pub returns : goal.returns
 returns g c =
     let i = c.loop-i.invariant in
-    let n : c.loop-i.i ≡ c.min-count.result = omega arith in
+    let n : c.loop-i.i ≡ c.min-count.result = omega (arith, length-take-le c.min-count.result c.args.requests.now (omega (arith, c.min-count.ensures))) in
     record {
-      played = subst (Played _ _ _ _ _ _) n (played _ _ _ _ _ _ _ i.1 (n ∙ c.min-count.ensures));
+      played = subst (Played _ _ _ _ _ _) n (played _ _ _ _ _ _ _ i.1 (omega (arith, n, c.min-count.ensures)));
       same = i.0;
     }

@@ -1,28 +1,12 @@
 use Rattle.std.proofs.Common.{arith}
-use Rattle.tally.proofs.Searches.{power_few, count_few, product_fits, fitting_more, fitting_most}
+use Rattle.std.proofs.Math.Nat.{div-le_self}
+use Rattle.promise.proofs.Settling.{few}
+use Rattle.tally.proofs.Searches.{most_by_power}
 use Rattle.tally.proofs.leak.most_misses.Goals as goal
-
-pub overflow_mul-power : goal.overflow_mul-power
-overflow_mul-power c = omega (arith, power_few _ _ _ _ c.requires.some c.requires.within c.loop-power.invariant)
-
-pub overflow_mul-quantum : goal.overflow_mul-quantum
-overflow_mul-quantum c = omega (arith, product_fits _ _ _ _ c.requires.some c.requires.within c.loop-power.invariant (omega arith))
-
-pub overflow_mul-power-in-loop-power : goal.overflow_mul-power-in-loop-power
-overflow_mul-power-in-loop-power c = omega (arith, power_few _ _ _ _ c.requires.some c.requires.within c.loop-power.invariant)
-
-pub overflow_add-n : goal.overflow_add-n
-overflow_add-n c = omega (arith, count_few _ _ _ _ c.requires.some c.requires.within c.loop-power.invariant)
-
-pub loop-power-smaller : goal.loop-power-smaller
-loop-power-smaller c = omega (arith, count_few _ _ _ _ c.requires.some c.requires.within c.loop-power.invariant)
-
-pub loop-power-preserved : goal.loop-power-preserved
-loop-power-preserved c = fitting_more _ _ _ _ c.requires.some c.requires.within c.loop-power.invariant c.loop-power-test.true
 
 pub returns : goal.returns
 returns c =
     record {
-      most = fitting_most _ _ _ _ c.requires.some c.requires.within c.loop-power.invariant c.loop-power-test.false;
-      few = count_few _ _ _ _ c.requires.some c.requires.within c.loop-power.invariant;
+      most = most_by_power _ _ _ c.requires.some c.ilog2.ensures.power_le c.ilog2.ensures.next_power_gt;
+      few = few c.ilog2.result c.args.span (omega (arith, c.ilog2.ensures.power_le, div-le_self c.args.span c.args.quantum)) c.requires.within;
     }
