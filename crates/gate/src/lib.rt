@@ -50,13 +50,13 @@ fn moved<B: Copy>(reply: Reply<B>, tick: u32) -> Reply<B>
 impl<S: Source, P: Pace, R: Penalty> Gate<S, P, R> {
     // A gate over the source that is opened at a tick.
     pub fn open(source: S, pace: P, penalty: R, opening: Opening) -> Gate<S, P, R>
-        ensures view { view_of S.Source result ≡ opened (S.Source.coming source) (S.Source.mark source) opening.tick }
+        ensures view { view_of S.Source result ≡ opened (S.Source.coming source) (S.Source.mark source) opening.value }
         ensures source { result.source ≡ source }
         ensures pace { result.pace ≡ pace }
         ensures penalty { result.penalty ≡ penalty }
-        ensures promise { Promise (rules_of P.Pace R.Penalty pace penalty) (S.Source.coming source) (S.Source.mark source) opening.tick }
+        ensures promise { Promise (rules_of P.Pace R.Penalty pace penalty) (S.Source.coming source) (S.Source.mark source) opening.value }
     {
-        let tick = opening.tick();
+        let tick = opening.value();
         let rows = [Row {
             misses: 0,
             releases: 0,

@@ -24,7 +24,7 @@ pub struct RefusedPage {
 
 // Begins a page in a buffer, which needs room for a foot at least.
 pub fn begin(buf: &[u8], opening: Opening) -> Result<OpenPage, PageFault>
-    ensures { MatchResult result (λ p. (36 ≤ length buf.now) × (p.account.tally ≡ begun opening.tick)) (λ f. (length buf.now < 36) × (f ≡ Room)) }
+    ensures { MatchResult result (λ p. (36 ≤ length buf.now) × (p.account.tally ≡ begun opening.value)) (λ f. (length buf.now < 36) × (f ≡ Room)) }
 {
     if buf.len() < LINE {
         return Err(PageFault::Room);

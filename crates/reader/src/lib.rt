@@ -98,8 +98,8 @@ fn read_rows(
     requires whole { 36 * rows + 36 ≡ length bytes.now }
     requires few { rows ≤ 50000 }
     requires room { rows ≤ length out.old }
-    ensures value { result ≡ ending rows (reading opening.tick bytes.now rows).fault }
-    ensures after { out.new ≡ over (reading opening.tick bytes.now rows).left out.old }
+    ensures value { result ≡ ending rows (reading opening.value bytes.now rows).fault }
+    ensures after { out.new ≡ over (reading opening.value bytes.now rows).left out.old }
 {
     let mut account = Account::new(opening);
     for i in 0..rows {
@@ -116,9 +116,9 @@ fn read_rows(
 
 // The account of rows that a page took.
 fn account_of(rows: &[PageRow], opening: Opening) -> Account
-    requires fits { Fits (begun opening.tick) rows.now }
+    requires fits { Fits (begun opening.value) rows.now }
     requires few { length rows.now ≤ 50000 }
-    ensures { result.tally ≡ tallied opening.tick rows.now }
+    ensures { result.tally ≡ tallied opening.value rows.now }
 {
     let room = LINE * rows.len() + LINE;
     let mut account = Account::new(opening);
@@ -138,9 +138,9 @@ fn check_foot<P: Pace>(
     opening: Opening,
     quanta: &P,
 ) -> Result<usize, FileFault>
-    requires fits { Fits (begun opening.tick) rows.now }
+    requires fits { Fits (begun opening.value) rows.now }
     requires few { length rows.now ≤ 50000 }
-    ensures { result ≡ foot_ending (length rows.now) (foot_read (foot_of (P.Pace.quanta quanta.now) (tallied opening.tick rows.now)) line.now) }
+    ensures { result ≡ foot_ending (length rows.now) (foot_read (foot_of (P.Pace.quanta quanta.now) (tallied opening.value rows.now)) line.now) }
 {
     let foot = account_of(rows, opening).foot(quanta);
     at_number(rows.len() as u32 + 1, read_foot(line, foot))?;
@@ -155,10 +155,10 @@ pub fn read_page<P: Pace>(
     quanta: &P,
     out: &mut [PageRow],
 ) -> Result<usize, FileFault>
-    ensures value { result ≡ page_answer (P.Pace.quanta quanta.now) opening.tick bytes.now (length out.old) }
-    ensures after { out.new ≡ over (page_read opening.tick bytes.now (length out.old)) out.old }
-    ensures exact { PageExact (P.Pace.quanta quanta.now) opening.tick bytes.now (length out.old) (page_read opening.tick bytes.now (length out.old)) result }
-    ensures back { ReadsBack (P.Pace.quanta quanta.now) opening.tick bytes.now (length out.old) (page_read opening.tick bytes.now (length out.old)) result }
+    ensures value { result ≡ page_answer (P.Pace.quanta quanta.now) opening.value bytes.now (length out.old) }
+    ensures after { out.new ≡ over (page_read opening.value bytes.now (length out.old)) out.old }
+    ensures exact { PageExact (P.Pace.quanta quanta.now) opening.value bytes.now (length out.old) (page_read opening.value bytes.now (length out.old)) result }
+    ensures back { ReadsBack (P.Pace.quanta quanta.now) opening.value bytes.now (length out.old) (page_read opening.value bytes.now (length out.old)) result }
 {
     let rows = count_rows(bytes.len(), out.len())?;
     read_rows(bytes, rows, opening, out)?;

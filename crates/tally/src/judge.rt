@@ -18,9 +18,9 @@ pub const MOST_PAGE_MISSES: u32 = 9_999;
 impl Account {
     // The account of a page without rows.
     pub fn new(opening: Opening) -> Account
-        ensures { result.tally ≡ begun opening.tick }
+        ensures { result.tally ≡ begun opening.value }
     {
-        let tick = opening.tick();
+        let tick = opening.value();
         Account {
             tally: Tally {
                 opening: tick,

@@ -13,7 +13,7 @@ pub returns-in_err-rows : goal.returns-in_err-rows
 returns-in_err-rows g c =
     let quanta = g.P.Pace.quanta c.args.quanta.now in
     let bytes = c.args.bytes.now in
-    let o : ℕ = c.args.opening.tick in
+    let o : ℕ = c.args.opening.value in
     let p = err_from_is_err_and c.from_residual.result c.from_residual.ensures.1 in
     let count = c.in_err-rows.ensures.value in
     let value = p.1 ∙ (ap Err p.2 ∙ ap (answer_of quanta o bytes) count) in
@@ -28,7 +28,7 @@ pub returns-in_err-read_rows : goal.returns-in_err-read_rows
 returns-in_err-read_rows g c =
     let quanta = g.P.Pace.quanta c.args.quanta.now in
     let bytes = c.args.bytes.now in
-    let o : ℕ = c.args.opening.tick in
+    let o : ℕ = c.args.opening.value in
     let n : ℕ = c.in_ok-rows.rows in
     let count = c.in_ok-rows.ensures.value in
     let p = err_from_is_err_and c.from_residual-in_err-read_rows.result c.from_residual-in_err-read_rows.ensures.1 in
@@ -44,7 +44,7 @@ returns-in_err-read_rows g c =
 pub check_foot-requires : goal.check_foot-requires
 check_foot-requires g c =
     let bytes = c.args.bytes.now in
-    let o : ℕ = c.args.opening.tick in
+    let o : ℕ = c.args.opening.value in
     let n : ℕ = c.in_ok-rows.rows in
     let w = c.in_ok-rows.ensures.within in
     let read = rows_taken o bytes n c.args.out.now c.read_rows.new.out c.in_ok-read_rows.field-0 (omega (arith, w)) c.in_ok-read_rows.ensures.value c.read_rows.ensures.after in
@@ -57,7 +57,7 @@ pub returns : goal.returns
 returns g c =
     let quanta = g.P.Pace.quanta c.args.quanta.now in
     let bytes = c.args.bytes.now in
-    let o : ℕ = c.args.opening.tick in
+    let o : ℕ = c.args.opening.value in
     let n : ℕ = c.in_ok-rows.rows in
     let w = c.in_ok-rows.ensures.within in
     let count = c.in_ok-rows.ensures.value in

@@ -34,7 +34,7 @@ returns-in_err-row c =
     let p = err_from_is_err_and c.from_residual.result c.from_residual.ensures.1 in
     let q = numbered_err _ c.read_line.result c.in_err-row.field-0.0 c.in_err-row.ensures in
     let read = sym (ap (line_read c.loop-i.account.tally) (row_part c.args.bytes.now (36 * c.loop-i.i) 36)) ∙ (sym c.read_line.ensures ∙ q.1) in
-    let o : c.new-account.result.tally.opening ≡ c.args.opening.tick = ap (λ (t : Tally). t.opening) c.new-account.ensures in
+    let o : c.new-account.result.tally.opening ≡ c.args.opening.value = ap (λ (t : Tally). t.opening) c.new-account.ensures in
     let a = page_faulty c.new-account.result.tally.opening c.args.bytes.now c.args.rows c.args.out.now c.loop-i.out c.loop-i.i c.loop-i.account.tally c.loop-i.invariant q.0 (omega arith) c.loop-i-test.true read in
     record {
       value = p.1 ∙ (ap Err p.2 ∙ (ap (λ f. Err (Row f)) q.2 ∙ a.0)) ∙ ap (λ n. ending c.args.rows (reading n c.args.bytes.now c.args.rows).fault) o;
@@ -43,7 +43,7 @@ returns-in_err-row c =
 
 pub returns : goal.returns
 returns c =
-    let o : c.new-account.result.tally.opening ≡ c.args.opening.tick = ap (λ (t : Tally). t.opening) c.new-account.ensures in
+    let o : c.new-account.result.tally.opening ≡ c.args.opening.value = ap (λ (t : Tally). t.opening) c.new-account.ensures in
     let a = page_whole c.new-account.result.tally.opening c.args.bytes.now c.args.rows c.args.out.now c.loop-i.out c.loop-i.i c.loop-i.account.tally c.loop-i.invariant (omega arith) c.loop-i-test.false in
     record {
       value = a.0 ∙ ap (λ n. ending c.args.rows (reading n c.args.bytes.now c.args.rows).fault) o;
