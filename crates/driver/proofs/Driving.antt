@@ -1,5 +1,6 @@
 -- Driving a gate onto a page, one release after another.
-use Rattle.std.proofs.Common.{◌≡◌, ℕ, ◌+◌, ◌*◌, ◌<◌, ◌≤◌, true, ltb, List, [], ◌∷◌, ◌++◌, length, Ok, Err, Result, sym, refl, ap, ◌∙◌, subst, arith}
+use Rattle.std.proofs.Common.{◌≡◌, ℕ, ◌+◌, ◌*◌, ◌<◌, ◌≤◌, true, false, ltb, List, [], ◌∷◌, ◌++◌, length, Ok, Err, Option, Result, sym, refl, ap, ◌∙◌, subst, arith}
+use Rattle.std.specs.Result.{result_err}
 use Rattle.std.proofs.lemmas.Bool.{le-leb, lt-ltb, leb-true, and_parts}
 use Rattle.source.specs.declared.reply.Reply.{Reply}
 use Rattle.source.specs.declared.reply.End.{End}
@@ -10,7 +11,6 @@ use Rattle.promise.proofs.Nexts.{Moves, moves, all_grows}
 use Rattle.tally.specs.declared.account.Tally.{Tally}
 use Rattle.tally.specs.Tallies.{begun, taken, orderly, roomy, verdict, row_answer, foot_of}
 use Rattle.page.specs.Pages.{row_bytes, foot_bytes, lined}
-use Rattle.driver.specs.declared.replay.Stop.{Stop}
 use Rattle.driver.specs.Replays.{row_of, Releases, tallied, filled, Stops, Fills, Replays}
 
 module _ {B : Type 0} where
@@ -89,21 +89,23 @@ module _ {B : Type 0} where
           misses = omega (arith, misses, grows, d.misses);
         }
 
-  -- where head answers a reply, a release would come
-  pub released_head : (m : Rules) (v : View B) (r : Reply B) → Ok r ≡ answer m v → (x : Release B) × (release m v ≡ Ok x)
-  released_head m v r e = go (release m v) refl e
+  -- why the driving stops where the page takes no further row: by what head answers
+  pub stopped : (m : Rules) (v : View B) (t : Tally) (room : ℕ) (r : Result (Reply B) End) → r ≡ answer m v → roomy t room ≡ false → Stops m v t room (result_err r)
+  stopped m v t room r e full = go (release m v) refl r e
     where
-      go : (o : Result (Release B) End) → release m v ≡ o → Ok r ≡ reply_of o → (x : Release B) × (release m v ≡ Ok x)
-      go (Ok x) is h = (x, is)
-      go (Err y) is h = absurd (let z : ◌≡◌ {A = ℕ} 0 1 = cc in omega arith)
+      go : (o : Result (Release B) End) → release m v ≡ o → (r : Result (Reply B) End) → r ≡ reply_of o → Stops m v t room (result_err r)
+      go (Ok x) is (Ok y) h = ((x, is), full)
+      go (Ok x) is (Err e) h = absurd (let z : ◌≡◌ {A = ℕ} 0 1 = cc in omega arith)
+      go (Err x) is (Ok y) h = absurd (let z : ◌≡◌ {A = ℕ} 0 1 = cc in omega arith)
+      go (Err x) is (Err e) h = let same : x ≡ e = cc in is ∙ ap Err same
 
   -- a page that was begun, filled and closed
-  pub replays : (m : Rules) (v w : View B) (t u : Tally) (buf buf₁ buf₂ : List ℕ) (quanta : ℕ → ℕ) (rows len : ℕ) (stop : Stop)
-      → t ≡ begun v.standing.clock → Fills m v w t u buf buf₁ stop → quanta ≡ m.quantum
+  pub replays : (m : Rules) (v w : View B) (t u : Tally) (buf buf₁ buf₂ : List ℕ) (quanta : ℕ → ℕ) (rows len : ℕ) (end : Option End)
+      → t ≡ begun v.standing.clock → Fills m v w t u buf buf₁ end → quanta ≡ m.quantum
       → 36 * u.rows + 36 ≤ length buf₁ → rows ≡ u.rows → buf₂ ≡ lined u.rows (foot_bytes (foot_of quanta u)) buf₁
       → length buf₁ ≡ length buf → len ≡ 36 * rows + 36
-      → Replays m v w buf buf₂ (record { length = len; stop = stop })
-  replays m v w t u buf buf₁ buf₂ quanta rows len stop begins f q room rows_is foot kept long =
+      → Replays m v w buf buf₂ (record { length = len; end = end })
+  replays m v w t u buf buf₁ buf₂ quanta rows len end begins f q room rows_is foot kept long =
       let xs = f.row_list in
       let t₀ = begun v.standing.clock in
       let ut : u ≡ tallied t₀ xs = f.tally ∙ ap (λ y. tallied y xs) begins in
@@ -118,5 +120,5 @@ module _ {B : Type 0} where
             ∙ ap (λ y. lined (length xs) (foot_bytes (foot_of m.quantum y)) buf₁) ut
             ∙ ap (lined (length xs) (foot_bytes (foot_of m.quantum (tallied t₀ xs)))) (f.bytes ∙ ap (λ y. filled y xs buf) begins);
         inside = omega (arith, long, rows_is, room, kept);
-        stops = subst (λ y. Stops m w y (length buf) stop) ut f.stops;
+        stops = subst (λ y. Stops m w y (length buf) end) ut f.stops;
       }

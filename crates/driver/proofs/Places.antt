@@ -1,9 +1,9 @@
 -- The place of a refusal fits its line: the row is one of the file, and the field one of the row.
 use Rattle.std.proofs.Common.{◌≡◌, ℕ, zero, suc, ◌+◌, ◌<◌, ◌≤◌, min, ◌&&◌, leb, ◌⊎◌, List, [], ◌∷◌, length, take, drop, Some, None, Ok, Err, Option, Result, sym, refl, ap, ◌∙◌, subst, inl, inr, arith}
+use Rattle.std.specs.Option.{unwrap_or}
 use Rattle.std.proofs.lemmas.Bool.{cases_Bool}
 use Rattle.source.specs.declared.reply.Reply.{Reply}
 use Rattle.pace.specs.declared.fault.StepFault.{StepFault}
-use Rattle.pace.specs.declared.fault.StepFault.TheVariants as step
 use Rattle.pace.specs.Steps.{has_step, no_steps}
 use Rattle.rows.specs.declared.field.FieldFault.{FieldFault}
 use Rattle.rows.specs.declared.field.FieldFault.TheVariants.{Form, Limit}
@@ -19,13 +19,13 @@ use Rattle.text.specs.Files.{Reading, row_count, ending, on_row, read_rows, answ
 use Rattle.text.specs.Lists.{reply_of, ordered, reply_from, last_asked, onto, list_step, list_read}
 use Rattle.text.specs.Schedules.{stepped, step_from, schedule_step, schedule_read}
 use Rattle.text.specs.Pairs.{pair_from}
-use Rattle.pace.specs.Refusals.{step_fault_number}
-use Rattle.rows.specs.Faults.{field_fault_number}
 use Rattle.text.specs.Refusals.{row_refusal, refusal_of}
 use Rattle.driver.specs.declared.job.Place.{Place}
 use Rattle.driver.specs.declared.job.JobFault.{JobFault}
 use Rattle.driver.specs.declared.job.JobFault.TheVariants as fault
-use Rattle.driver.specs.Jobs.{place_in, place_of, Refused}
+use Rattle.driver.specs.declared.job.File.{File}
+use Rattle.driver.specs.declared.job.File.TheVariants as file
+use Rattle.driver.specs.Jobs.{place_of, Refused}
 use Rattle.driver.proofs.ListsRead.{listed, count_within, count_refused}
 
 -- the field that a row's fault names, or 0
@@ -142,41 +142,29 @@ pair_row ladders k (r ∷ rs) f e =
     same : {a : ℕ} {g : NoStep} → ◌≡◌ {A = Result (Unit {0}) NoStep} (Err (record { row = a })) (Err g) → a ≡ g.row
     same p = cc
 
--- a refusal line has room for each number of the place
+-- a refusal line has room for the row and the field of the place
 pub record Fits (p : Place) : Type 0 where
-  pub number : p.number ≤ 12
-  pub file : p.file ≤ 3
-  pub row : p.row ≤ 50000
-  pub field : p.field ≤ 9
+  pub row : unwrap_or p.refusal.row 0 ≤ 50000
+  pub field : unwrap_or p.refusal.field 0 ≤ 9
 
-field_number : (f : FieldFault) → field_fault_number f ≤ 12
-field_number Form = omega arith
-field_number Limit = omega arith
+row_fits : (k : File) (row : ℕ) (f : RowFault) → row ≤ 50000 → field_in f ≤ 9 → Fits (record { file = k; refusal = row_refusal row f })
+row_fits k row (Field f) r c = record { row = r; field = c }
+row_fits k row Newline r c = record { row = r; field = c }
+row_fits k row Order r c = record { row = r; field = c }
+row_fits k row (Step f) r c = record { row = r; field = c }
 
-step_number : (f : StepFault) → step_fault_number f ≤ 12
-step_number (step.Class c) = omega arith
-step_number step.Range = omega arith
-step_number step.Order = omega arith
-
-row_fits : (k row : ℕ) (f : RowFault) → k ≤ 3 → row ≤ 50000 → field_in f ≤ 9 → Fits (place_in k (row_refusal row f))
-row_fits k row (Field f) hk r c = record { number = field_number f.fault; file = hk; row = r; field = c }
-row_fits k row Newline hk r c = record { number = omega arith; file = hk; row = r; field = c }
-row_fits k row Order hk r c = record { number = omega arith; file = hk; row = r; field = c }
-row_fits k row (Step f) hk r c = record { number = step_number f; file = hk; row = r; field = c }
-
-file_fits : (k : ℕ) (f : FileFault) → k ≤ 3 → ((g : Numbered RowFault) → f ≡ Row g → (g.number ≤ 50000) × (field_in g.fault ≤ 9))
-    → Fits (place_in k (refusal_of f))
-file_fits k Size hk h = record { number = omega arith; file = hk; row = omega arith; field = omega arith }
-file_fits k (Row g) hk h = row_fits k g.number g.fault hk (h g refl).0 (h g refl).1
+file_fits : (k : File) (f : FileFault) → ((g : Numbered RowFault) → f ≡ Row g → (g.number ≤ 50000) × (field_in g.fault ≤ 9))
+    → Fits (record { file = k; refusal = refusal_of f })
+file_fits k Size h = record { row = omega arith; field = omega arith }
+file_fits k (Row g) h = row_fits k g.number g.fault (h g refl).0 (h g refl).1
 
 pub place_fits : (schedule list : List ℕ) (room : ℕ) (f : JobFault) → Refused schedule list room f → Fits (place_of f)
 place_fits schedule list room (fault.Schedule f) e =
-    file_fits 1 f (omega arith) (λ g is. let h = file_fault schedule_step 17 schedule_field no_steps schedule 128 g (e ∙ ap Err is) in (omega (arith, h.0), h.1))
+    file_fits file.Schedule f (λ g is. let h = file_fault schedule_step 17 schedule_field no_steps schedule 128 g (e ∙ ap Err is) in (omega (arith, h.0), h.1))
 place_fits schedule list room (fault.List f) e =
-    file_fits 2 f (omega arith) (λ g is. let h = file_fault list_step 35 list_field [] list (min 50000 room) g (e.1 ∙ ap Err is) in (omega (arith, h.0), h.1))
+    file_fits file.List f (λ g is. let h = file_fault list_step 35 list_field [] list (min 50000 room) g (e.1 ∙ ap Err is) in (omega (arith, h.0), h.1))
 place_fits schedule list room (fault.Pair f) e =
     let l = listed list room e.1.0 (sym e.1.1) in
     let r = pair_row (schedule_read no_steps schedule) 1 (list_read list room) f e.2 in
-    record { number = omega arith; file = omega arith; row = omega (arith, r, l.long, l.few); field = omega arith }
-place_fits schedule list room (fault.Page f) e =
-    subst (λ x. Fits (place_of (fault.Page x))) (sym e.1) (record { number = omega arith; file = omega arith; row = omega arith; field = omega arith })
+    record { row = omega (arith, r, l.long, l.few); field = omega arith }
+place_fits schedule list room (fault.Page f) e = record { row = omega arith; field = omega arith }

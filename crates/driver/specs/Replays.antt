@@ -4,9 +4,8 @@
 --   tallied    the tally of a page with the rows of these releases; `filled`, its buffer
 --   Stops      why no further row is taken: the gate ends, or the page is full and the reply stays
 --   Fills      what is driven onto a page; `Replays`, onto a page that is begun and closed
-use Rattle.std.specs.Prelude.{◌≡◌, ℕ, ◌+◌, ◌*◌, ◌<◌, ◌≤◌, false, List, [], ◌∷◌, length, Ok, Err, Result}
+use Rattle.std.specs.Prelude.{◌≡◌, ℕ, ◌+◌, ◌*◌, ◌<◌, ◌≤◌, false, List, [], ◌∷◌, length, Some, None, Ok, Err, Option, Result}
 use Rattle.source.specs.declared.reply.End.{End}
-use Rattle.source.specs.declared.reply.End.TheVariants.{Dry, Horizon}
 use Rattle.promise.specs.declared.release.Release.{Release}
 use Rattle.promise.specs.Rules.{Rules}
 use Rattle.promise.specs.Views.{View, release, next}
@@ -16,14 +15,7 @@ use Rattle.tally.specs.declared.line.PageFault.TheVariants.{Room}
 use Rattle.tally.specs.declared.account.Tally.{Tally}
 use Rattle.tally.specs.Tallies.{begun, taken, roomy, foot_of}
 use Rattle.page.specs.Pages.{row_bytes, foot_bytes, lined}
-use Rattle.driver.specs.declared.replay.Stop.{Stop}
-use Rattle.driver.specs.declared.replay.Stop.TheVariants as stop
 use Rattle.driver.specs.declared.replay.Replayed.{Replayed}
-
--- a gate's end as a reason to stop
-abbrev pub stop_of : End → Stop
-stop_of Dry = stop.Dry
-stop_of Horizon = stop.Horizon
 
 module _ {B : Type 0} where
   abbrev pub row_of : Release B → PageRow
@@ -42,17 +34,16 @@ module _ {B : Type 0} where
   filled t (x ∷ xs) buf = filled (taken t (row_of x)) xs (lined t.rows (row_bytes (t.rows + 1) (row_of x)) buf)
 
   -- from what the gate shows, with the tally of the page in so much room
-  abbrev pub Stops : Rules → View B → Tally → ℕ → Stop → Type 0
-  Stops m v t room stop.Dry = release m v ≡ Err Dry
-  Stops m v t room stop.Horizon = release m v ≡ Err Horizon
-  Stops m v t room stop.Full = ((x : Release B) × (release m v ≡ Ok x)) × (roomy t room ≡ false)
+  abbrev pub Stops : Rules → View B → Tally → ℕ → Option End → Type 0
+  Stops m v t room (Some e) = release m v ≡ Err e
+  Stops m v t room None = ((x : Release B) × (release m v ≡ Ok x)) × (roomy t room ≡ false)
 
-  pub record Fills (m : Rules) (v w : View B) (t u : Tally) (buf buf' : List ℕ) (stop : Stop) : Type 0 where
+  pub record Fills (m : Rules) (v w : View B) (t u : Tally) (buf buf' : List ℕ) (end : Option End) : Type 0 where
     pub row_list : List (Release B)
     pub releases : Releases m v row_list w
     pub tally : u ≡ tallied t row_list
     pub bytes : buf' ≡ filled t row_list buf
-    pub stops : Stops m w u (length buf) stop
+    pub stops : Stops m w u (length buf) end
 
   pub record Replays (m : Rules) (v w : View B) (buf buf' : List ℕ) (d : Replayed) : Type 0 where
     pub row_list : List (Release B)
@@ -60,7 +51,7 @@ module _ {B : Type 0} where
     pub length_is : d.length ≡ 36 * length row_list + 36
     pub bytes : buf' ≡ lined (length row_list) (foot_bytes (foot_of m.quantum (tallied (begun v.standing.clock) row_list))) (filled (begun v.standing.clock) row_list buf)
     pub inside : d.length ≤ length buf
-    pub stops : Stops m w (tallied (begun v.standing.clock) row_list) (length buf) d.stop
+    pub stops : Stops m w (tallied (begun v.standing.clock) row_list) (length buf) d.end
 
   -- refused where not even a foot has room, with the gate and the buffer as they were
   abbrev pub ReplayLeaves : Rules → View B → View B → List ℕ → List ℕ → Result Replayed PageFault → Type 0

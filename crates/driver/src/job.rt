@@ -4,7 +4,8 @@ ghost use Rattle.pace.specs.Steps.{ladders_of, no_steps};
 ghost use Rattle.promise.specs.Views.{View};
 ghost use Rattle.driver.specs.Replays.{ReplayLeaves};
 ghost use Rattle.driver.specs.declared.job.JobFault.TheVariants.{Pair, Page};
-ghost use Rattle.driver.specs.Jobs.{place_in, place_of, job_rules, job_view, Prepares, JobLeaves, line_of, Prints};
+ghost use Rattle.std.specs.Option.{unwrap_or};
+ghost use Rattle.driver.specs.Jobs.{place_of, job_rules, job_view, Prepares, JobLeaves, line_of, Prints};
 
 use super::replay::{Replayed, replay};
 use gate::Gate;
@@ -12,6 +13,7 @@ use gate::opening::Opening;
 use pace::rules::OwnRule;
 use pace::steps::Steps;
 use rows::layout::REFUSAL_LINE;
+use source::refusal::Refused;
 use source::reply::Reply;
 use source::trace::Trace;
 use tally::line::PageFault;
@@ -45,25 +47,19 @@ impl From<PageFault> for JobFault {
     }
 }
 
-// Where a job was refused, as it is printed: the number of the refusal, the file (1 the schedule, 2 the list, 3 the
-// page), the row and the field; a part that does not apply is 0.
+// The files of a job, by the number that a refusal names them with.
 #[derive(Clone, Copy, PartialEq, Eq, Debug)]
-pub struct Place {
-    pub number: u32,
-    pub file: u32,
-    pub row: u32,
-    pub field: u32,
+pub enum File {
+    Schedule = 1,
+    List = 2,
+    Page = 3,
 }
 
-fn place_in(file: u32, refusal: Refusal) -> Place
-    ensures { result ≡ place_in file refusal }
-{
-    Place {
-        number: refusal.number,
-        file,
-        row: refusal.row,
-        field: refusal.field,
-    }
+// Where a job was refused: the file, and the refusal with what it names of the file.
+#[derive(Clone, Copy, PartialEq, Eq, Debug)]
+pub struct Place {
+    pub file: File,
+    pub refusal: Refusal,
 }
 
 impl JobFault {
@@ -72,14 +68,21 @@ impl JobFault {
         ensures { result ≡ place_of self.now }
     {
         match self {
-            JobFault::Schedule(f) => place_in(1, f.refusal()),
-            JobFault::List(f) => place_in(2, f.refusal()),
-            JobFault::Pair(f) => place_in(2, f.refusal()),
-            JobFault::Page(f) => Place {
-                number: f.number(),
-                file: 3,
-                row: 0,
-                field: 0,
+            JobFault::Schedule(fault) => Place {
+                file: File::Schedule,
+                refusal: fault.refusal(),
+            },
+            JobFault::List(fault) => Place {
+                file: File::List,
+                refusal: fault.refusal(),
+            },
+            JobFault::Pair(fault) => Place {
+                file: File::List,
+                refusal: fault.refusal(),
+            },
+            JobFault::Page(fault) => Place {
+                file: File::Page,
+                refusal: Refusal::of_file(fault.code()),
             },
         }
     }
@@ -96,13 +99,8 @@ fn prepare(
     requires { ladders_of steps.old ≡ no_steps }
     ensures { Prepares schedule.now list.now (length records.old) (ladders_of steps.new) records.new result }
 {
-    if let Err(fault) = read_schedule(schedule, steps) {
-        return Err(JobFault::Schedule(fault));
-    }
-    let count = match read_list(list, records) {
-        Ok(count) => count,
-        Err(fault) => return Err(JobFault::List(fault)),
-    };
+    read_schedule(schedule, steps).map_err(JobFault::Schedule)?;
+    let count = read_list(list, records).map_err(JobFault::List)?;
     pair(&records[0..count], steps)?;
     Ok(count)
 }
@@ -133,27 +131,17 @@ pub fn run(
     Ok(replayed)
 }
 
-// What a job prints: that many bytes of the buffer, which are the page, or a refusal line.
-#[derive(Clone, Copy)]
-pub enum Printed {
-    Page(usize),
-    Refusal([u8; 25]),
-}
+// A refusal line: four numbers, each in six columns, and a newline.
+pub type RefusalLine = [u8; 25];
 
-// A refusal line: the four numbers of the place, each in six columns, and a newline.
-fn line(place: Place) -> [u8; 25]
-    requires number { place.number ≤ 12 }
-    requires file { place.file ≤ 3 }
-    requires row { place.row ≤ 50000 }
-    requires field { place.field ≤ 9 }
+// The line of a place: the numbers of the refusal and of its file, its row and its field.
+fn line(place: Place) -> RefusalLine
+    requires row { unwrap_or place.refusal.row 0 ≤ 50000 }
+    requires field { unwrap_or place.refusal.field 0 ≤ 9 }
     ensures { result ≡ line_of place }
 {
-    let values = [
-        place.number as u64,
-        place.file as u64,
-        place.row as u64,
-        place.field as u64,
-    ];
+    let [number, row, field] = place.refusal.numbers();
+    let values = [number, place.file as u32, row, field].map(u64::from);
     let mut line = [0; 25];
     let Ok(()) = REFUSAL_LINE.write(&values, &mut line) else {
         unreachable()
@@ -161,12 +149,18 @@ fn line(place: Place) -> [u8; 25]
     line
 }
 
-// The whole job: what is printed for a schedule and a list. The records hold the list, and the buffer the page.
-pub fn job(schedule: &[u8], list: &[u8], records: &mut [Reply<u32>], out: &mut [u8]) -> Printed
+// The whole job: the page of a schedule and a list, as that many bytes of the buffer, or the line of the refusal. The
+// records hold the list.
+pub fn job(
+    schedule: &[u8],
+    list: &[u8],
+    records: &mut [Reply<u32>],
+    out: &mut [u8],
+) -> Result<usize, RefusalLine>
     ensures { Prints schedule.now list.now (length records.old) out.old out.new result }
 {
     match run(schedule, list, records, out) {
-        Ok(replayed) => Printed::Page(replayed.length),
-        Err(fault) => Printed::Refusal(line(fault.place())),
+        Ok(replayed) => Ok(replayed.length),
+        Err(fault) => Err(line(fault.place())),
     }
 }

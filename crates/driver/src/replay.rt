@@ -2,7 +2,7 @@
 ghost use Rattle.std.specs.Prelude.{◌≡◌, ◌+◌, ◌*◌, ◌≤◌, length};
 ghost use Rattle.promise.specs.Views.{all};
 ghost use Rattle.gate.specs.Gates.{view_of, rules_in};
-ghost use Rattle.driver.specs.Replays.{stop_of, Fills, ReplayLeaves};
+ghost use Rattle.driver.specs.Replays.{Fills, ReplayLeaves};
 
 use gate::Gate;
 use gate::opening::Opening;
@@ -13,38 +13,21 @@ use source::Source;
 use source::reply::End;
 use tally::line::{PageFault, PageRow};
 
-// Why a page took no further row: the gate ended, dry or at the horizon, or the page is full.
-#[derive(Clone, Copy, PartialEq, Eq, Debug)]
-pub enum Stop {
-    Dry,
-    Horizon,
-    Full,
-}
-
-impl From<End> for Stop {
-    ghost from_gives = { λ e r. r ≡ stop_of e };
-
-    fn from(end: End) -> Stop {
-        match end {
-            End::Dry => Stop::Dry,
-            End::Horizon => Stop::Horizon,
-        }
-    }
-}
-
-// A page that was written: its bytes with the foot, and why it ended.
+// A page that was written: its bytes with the foot, and the mark that the gate ended with, or nothing where the page
+// took no further row.
 #[derive(Clone, Copy, PartialEq, Eq, Debug)]
 pub struct Replayed {
     pub length: usize,
-    pub stop: Stop,
+    pub end: Option<End>,
 }
 
 // Drives the gate onto the page until the gate ends or the page takes no further row; that reply stays in the gate.
+// Answers the mark that the gate ended with, if it did.
 fn fill<S: Source, P: Pace, R: Penalty>(
     gate: &mut Gate<S, P, R>,
     page: &mut OpenPage,
     buf: &mut [u8],
-) -> Stop
+) -> Option<End>
     requires room { 36 * page.old.account.tally.rows + 36 ≤ length buf.old }
     requires clock { page.old.account.tally.clock ≡ (view_of S.Source gate.old).standing.clock }
     requires misses { page.old.account.tally.misses ≤ all (view_of S.Source gate.old).standing }
@@ -55,7 +38,7 @@ fn fill<S: Source, P: Pace, R: Penalty>(
     while page.has_room(buf) {
         let release = match gate.release() {
             Ok(release) => release,
-            Err(end) => return Stop::from(end),
+            Err(end) => return Some(end),
         };
         let reply = release.reply;
         let row = PageRow {
@@ -68,10 +51,7 @@ fn fill<S: Source, P: Pace, R: Penalty>(
             unreachable()
         };
     }
-    match gate.head() {
-        Ok(_) => Stop::Full,
-        Err(end) => Stop::from(end),
-    }
+    gate.head().err()
 }
 
 // Begins a page with the gate's clock as its opening, drives the gate onto it, and closes it with the gate's quanta.
@@ -87,11 +67,11 @@ pub fn replay<S: Source, P: Pace, R: Penalty>(
         unreachable()
     };
     let mut page = begin(buf, opening)?;
-    let stop = fill(gate, &mut page, buf);
+    let end = fill(gate, &mut page, buf);
     match page.close(buf, gate.pace()) {
         Ok(closed) => Ok(Replayed {
             length: closed.length(),
-            stop,
+            end,
         }),
         Err(_) => unreachable(),
     }

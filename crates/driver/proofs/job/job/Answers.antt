@@ -5,4 +5,4 @@ use Rattle.driver.proofs.job.job.Goals as goal
 pub line-requires : goal.line-requires
 line-requires c =
     let f = subst Fits (sym c.place.ensures) (place_fits c.args.schedule.now c.args.list.now (length c.args.records.now) c.in-Err.fault c.in-Err.ensures.0) in
-    record { number = f.number; file = f.file; row = f.row; field = f.field }
+    record { row = f.row; field = f.field }

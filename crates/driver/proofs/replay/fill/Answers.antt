@@ -1,4 +1,4 @@
-use Rattle.std.proofs.Common.{◌≡◌, ◌<◌, ◌≤◌, length, Ok, sym, ap, ◌∙◌, subst, arith}
+use Rattle.std.proofs.Common.{◌≡◌, ◌<◌, ◌≤◌, false, length, Ok, sym, ap, ◌∙◌, subst, arith}
 use lib.ListN.{length-map}
 use Rattle.gate.specs.declared.Gate.{Gate}
 use Rattle.promise.specs.declared.release.Release.{Release}
@@ -8,7 +8,8 @@ use Rattle.promise.specs.Views.{all, release, answer, next, Timely}
 use Rattle.gate.specs.Gates.{view_of, rules_in}
 use Rattle.tally.specs.Tallies.{roomy}
 use Rattle.gate.proofs.Rows.{all_few}
-use Rattle.driver.proofs.Driving.{accepted, driven_more, released_head}
+use Rattle.driver.specs.Replays.{Stops}
+use Rattle.driver.proofs.Driving.{accepted, driven_more, stopped}
 use Rattle.driver.proofs.replay.fill.Given as given
 use Rattle.driver.proofs.replay.fill.Goals as goal
 
@@ -58,19 +59,21 @@ unreachable-requires g c =
     (c.row.ensures.value
     ∙ accepted m _ _ _ _ c.loop-gate.page.account.tally _ c.loop-gate.buf x i.1 k.out k.is k.inside e.timely k.few (sym c.loop-gate-test.ensures))
 
-pub returns-in-Ok-head : goal.returns-in-Ok-head
-returns-in-Ok-head g c =
+pub returns : goal.returns
+returns g c =
     let m = rules_in g.P.Pace g.R.Penalty c.args.gate.now in
     let i = c.loop-gate.invariant in
     let v = view_of g.S.Source c.loop-gate.gate in
-    let h = released_head m v c.in-Ok-head.field-0 (subst (λ r. Ok c.in-Ok-head.field-0 ≡ answer r v) i.0 c.in-Ok-head.ensures.call.0) in
+    let t = c.loop-gate.page.account.tally in
+    let answered : c.head.result ≡ answer m v = subst (λ r. c.head.result ≡ answer r v) i.0 c.head.ensures.call.0 in
+    let full : roomy t (length c.args.buf.now) ≡ false = ap (λ n. roomy t n) (sym c.loop-gate.auto.buf) ∙ sym c.loop-gate-test.ensures in
     record {
       fills = record {
         row_list = i.1.row_list;
         releases = i.1.releases;
         tally = i.1.tally;
         bytes = i.1.bytes;
-        stops = (h, ap (λ n. roomy c.loop-gate.page.account.tally n) (sym c.loop-gate.auto.buf) ∙ sym c.loop-gate-test.ensures);
+        stops = subst (Stops m v t (length c.args.buf.now)) (sym c.err.ensures.value) (stopped m v t (length c.args.buf.now) c.head.result answered full);
       };
       same = i.0;
       room = i.1.room;

@@ -13,11 +13,11 @@ returns g c =
     let closed = c.in-Ok-close.ensures.after in
     record {
       value =
-          replays m v _ c.in_ok-page.page.account.tally c.fill-stop.new.page.account.tally c.args.buf.now c.fill-stop.new.buf c.close.new.buf
-          (g.P.Pace.quanta c.pace.result.now) c.in-Ok-close.closed.rows c.length.result c.fill-stop.result
+          replays m v _ c.in_ok-page.page.account.tally c.fill-end.new.page.account.tally c.args.buf.now c.fill-end.new.buf c.close.new.buf
+          (g.P.Pace.quanta c.pace.result.now) c.in-Ok-close.closed.rows c.length.result c.fill-end.result
           (c.in_ok-page.ensures.1 ∙ ap begun (checked_same 0 1000000000 c.clock.result c.in-Ok.opening.value c.in-Ok.ensures ∙ c.clock.ensures.call.0))
-          c.fill-stop.ensures.fills
-          (ap g.P.Pace.quanta c.pace.ensures ∙ ap (λ (r : Rules). r.quantum) c.fill-stop.ensures.same)
-          closed.0 closed.1 closed.2 c.fill-stop.auto.buf c.length.ensures;
-      same = c.fill-stop.ensures.same;
+          c.fill-end.ensures.fills
+          (ap g.P.Pace.quanta c.pace.ensures ∙ ap (λ (r : Rules). r.quantum) c.fill-end.ensures.same)
+          closed.0 closed.1 closed.2 c.fill-end.auto.buf c.length.ensures;
+      same = c.fill-end.ensures.same;
     }
