@@ -1,6 +1,6 @@
 -- A foot is read exactly where its bytes stand.
 use Rattle.std.proofs.Common.{◌≡◌, ℕ, zero, suc, ◌-◌, ◌*◌, ◌^◌, ◌<◌, ◌≤◌, Bool, true, false, ◌&&◌, eqb, ltb, List, [], ◌∷◌, length, get_or, drop, Ok, Err, Result, sym, refl, ap, ◌∙◌, inl, inr, mul-le-mul_right, mul-le-mul, arith, lit<}
-use Rattle.std.proofs.lemmas.Bool.{cases_Bool, and_parts, and_from, ltb-true, eq-eqb, eqb-true}
+use Rattle.std.proofs.lemmas.Bool.{cases_Bool, and_parts, and_from, lt-ltb, ltb-true, eq-eqb, eqb-true}
 use Rattle.promise.specs.Leaks.{most_of, share, over, exponent}
 use Rattle.promise.proofs.Mosts.{most_of_is}
 use Rattle.promise.proofs.Settling.{few}
@@ -9,7 +9,8 @@ use Rattle.rows.specs.declared.fault.RowFault.{RowFault}
 use Rattle.rows.specs.declared.fault.RowFault.TheVariants.{Field, Order}
 use Rattle.rows.specs.Columns.{foot_row}
 use Rattle.rows.specs.Rows.{Within, row_read, row_shown}
-use Rattle.rows.proofs.Fitting.{AllSound, sound_shape}
+use Rattle.rows.proofs.Fitting.{AllSound}
+use Rattle.rows.proofs.Tables.{sound_table, row_placed}
 use Rattle.rows.proofs.RowLaws.{row_back, row_shown_is, length_row}
 use Rattle.tally.specs.declared.line.Foot.{Foot}
 use Rattle.tally.specs.declared.account.Tally.{Tally}
@@ -18,22 +19,9 @@ use Rattle.tally.specs.Tallies.{foot_of}
 use Rattle.tally.proofs.Searches.{row_bits_is}
 use Rattle.page.specs.Pages.{foot_bytes}
 use Rattle.reader.specs.PageFiles.{same_foot, foot_from, foot_read}
-use Rattle.reader.proofs.FootReading.{foot_begun}
 
 pub foot_sound : AllSound foot_row
-foot_sound = (
-  sound_shape 5 99999 (omega arith) (omega arith) (lit< tt),
-  (
-    sound_shape 11 1000000000 (omega arith) (omega arith) (lit< tt),
-    (
-      sound_shape 3 999 (omega arith) (omega arith) (lit< tt),
-      (
-        sound_shape 11 99999999999 (omega arith) (omega arith) (lit< tt),
-        (sound_shape 4 9999 (omega arith) (omega arith) (lit< tt), tt),
-      ),
-    ),
-  ),
-)
+foot_sound = sound_table foot_row refl
 
 abbrev pub foot_numbers : Foot → List ℕ
 foot_numbers f = f.rows ∷ f.clock ∷ f.classes ∷ f.bits ∷ f.misses ∷ []
@@ -45,6 +33,12 @@ same_self f =
     (and_from (eqb f.classes f.classes) _ (eq-eqb f.classes f.classes refl)
     (and_from (eqb f.bits f.bits) (eqb f.misses f.misses) (eq-eqb f.bits f.bits refl) (eq-eqb f.misses f.misses refl))))
 
+-- a line that begins with "="
+foot_begun : (f : Foot) (line : List ℕ) → 0 < length line → get_or line 0 0 ≡ 61 → foot_read f line ≡ foot_from f (row_read 2 foot_row (drop 1 line))
+foot_begun f line some e =
+    let t : (ltb 0 (length line) && eqb (get_or line 0 0) 61) ≡ true = and_from (ltb 0 (length line)) (eqb (get_or line 0 0) 61) (lt-ltb 0 (length line) some) (eq-eqb (get_or line 0 0) 61 e) in
+    rw (t, foot_read) refl
+
 -- what is shown is read
 pub foot_back : (f : Foot) → Within foot_row (foot_numbers f) → foot_read f (foot_bytes f) ≡ Ok tt
 foot_back f w =
@@ -52,22 +46,17 @@ foot_back f w =
     foot_begun f (foot_bytes f) (omega arith) refl ∙ ap (foot_from f) (row_back 2 foot_row (foot_numbers f) foot_sound w) ∙ o
 
 numbers_same : (f : Foot) (vs : List ℕ) → Within foot_row vs → same_foot f vs ≡ true → vs ≡ foot_numbers f
-numbers_same f [] w e = absurd w
-numbers_same f (a ∷ []) w e = absurd w.1
-numbers_same f (a ∷ b ∷ []) w e = absurd w.1.1
-numbers_same f (a ∷ b ∷ c ∷ []) w e = absurd w.1.1.1
-numbers_same f (a ∷ b ∷ c ∷ d ∷ []) w e = absurd w.1.1.1.1
-numbers_same f (a ∷ b ∷ c ∷ d ∷ g ∷ []) w e =
-    let p = and_parts (eqb a f.rows) _ e in
-    let q = and_parts (eqb b f.clock) _ p.1 in
-    let r = and_parts (eqb c f.classes) _ q.1 in
-    let s = and_parts (eqb d f.bits) (eqb g f.misses) r.1 in
-    all_same (eqb-true a f.rows p.0) (eqb-true b f.clock q.0) (eqb-true c f.classes r.0) (eqb-true d f.bits s.0) (eqb-true g f.misses s.1)
+numbers_same f vs w e =
+    let p = and_parts (eqb (get_or vs 0 0) f.rows) _ e in
+    let q = and_parts (eqb (get_or vs 1 0) f.clock) _ p.1 in
+    let r = and_parts (eqb (get_or vs 2 0) f.classes) _ q.1 in
+    let s = and_parts (eqb (get_or vs 3 0) f.bits) (eqb (get_or vs 4 0) f.misses) r.1 in
+    row_placed foot_row vs w
+    ∙ all_same (eqb-true _ f.rows p.0) (eqb-true _ f.clock q.0) (eqb-true _ f.classes r.0) (eqb-true _ f.bits s.0) (eqb-true _ f.misses s.1)
   where
     all_same : {v w x y z v' w' x' y' z' : ℕ} → v ≡ v' → w ≡ w' → x ≡ x' → y ≡ y' → z ≡ z'
         → ◌≡◌ {A = List ℕ} (v ∷ w ∷ x ∷ y ∷ z ∷ []) (v' ∷ w' ∷ x' ∷ y' ∷ z' ∷ [])
     all_same p q r s t = λ i. p i ∷ q i ∷ r i ∷ s i ∷ t i ∷ []
-numbers_same f (a ∷ b ∷ c ∷ d ∷ g ∷ h ∷ vs) w e = absurd w.1.1.1.1.1
 
 from_parts : (f : Foot) (x : Result (List ℕ) RowFault) → foot_from f x ≡ Ok tt → (vs : List ℕ) × (x ≡ Ok vs) × (same_foot f vs ≡ true)
 from_parts f (Err e) h = let z : ◌≡◌ {A = ℕ} 0 1 = cc in absurd (omega arith)

@@ -1,4 +1,3 @@
-pub mod FootReading
 pub mod Turns
 pub mod PageReading
 pub mod Accounting

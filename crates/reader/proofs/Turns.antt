@@ -5,7 +5,8 @@ use Rattle.rows.specs.declared.fault.RowFault.{RowFault}
 use Rattle.rows.specs.declared.fault.RowFault.TheVariants.{Order}
 use Rattle.rows.specs.Columns.{page_row}
 use Rattle.rows.specs.Rows.{Within, row_read, row_shown}
-use Rattle.rows.proofs.Fitting.{AllSound, sound_shape}
+use Rattle.rows.proofs.Fitting.{AllSound}
+use Rattle.rows.proofs.Tables.{sound_table, row_placed}
 use Rattle.rows.proofs.RowLaws.{row_back, row_shown_is}
 use Rattle.tally.specs.declared.line.PageRow.{PageRow}
 use Rattle.tally.specs.declared.line.PageFault.{PageFault}
@@ -15,32 +16,14 @@ use Rattle.page.specs.Pages.{row_bytes}
 use Rattle.reader.specs.PageFiles.{row_of, in_turn, turn_from, line_read}
 
 pub page_sound : AllSound page_row
-page_sound = (
-  sound_shape 6 999999 (omega arith) (omega arith) (lit< tt),
-  (
-    sound_shape 11 1000000000 (omega arith) (omega arith) (lit< tt),
-    (
-      sound_shape 3 7 (omega arith) (omega arith) (lit< tt),
-      (
-        sound_shape 11 1000000000 (omega arith) (omega arith) (lit< tt),
-        (sound_shape 4 9999 (omega arith) (omega arith) (lit< tt), tt),
-      ),
-    ),
-  ),
-)
+page_sound = sound_table page_row refl
 
 -- the numbers of a row
 abbrev pub line_numbers : ℕ → PageRow → List ℕ
 line_numbers k r = k ∷ r.asked ∷ r.«class» ∷ r.release ∷ r.misses ∷ []
 
 numbers_back : (vs : List ℕ) → Within page_row vs → vs ≡ line_numbers (get_or vs 0 0) (row_of vs)
-numbers_back [] w = absurd w
-numbers_back (a ∷ []) w = absurd w.1
-numbers_back (a ∷ b ∷ []) w = absurd w.1.1
-numbers_back (a ∷ b ∷ c ∷ []) w = absurd w.1.1.1
-numbers_back (a ∷ b ∷ c ∷ d ∷ []) w = absurd w.1.1.1.1
-numbers_back (a ∷ b ∷ c ∷ d ∷ e ∷ []) w = refl
-numbers_back (a ∷ b ∷ c ∷ d ∷ e ∷ f ∷ vs) w = absurd w.1.1.1.1.1
+numbers_back vs w = row_placed page_row vs w
 
 -- a row that a page takes next, with a line of its own
 pub record Takes (t : Tally) (r : PageRow) : Type 0 where

@@ -18,20 +18,15 @@ use rows::layout::{FOOT, PAGE_ROW};
 use tally::account::Account;
 use tally::line::{Foot, LINE, MOST_ROWS, PageRow};
 use text::fault::FileFault;
+use text::file::count_rows;
 
 // The rows of a page of so many bytes, its foot left out, for a buffer of so many rows.
-fn count_rows(size: usize, room: usize) -> Result<usize, FileFault>
+fn count_lines(size: usize, room: usize) -> Result<usize, FileFault>
     ensures value { result ≡ page_count room size }
     ensures within { IfOk result (λ n. (36 * n + 36 ≡ size) × (n ≤ 50000) × (n ≤ room)) }
 {
-    if size < LINE {
-        return Err(FileFault::Size);
-    }
-    let rows = (size - LINE) / LINE;
-    if (size - LINE) % LINE != 0 || rows > (MOST_ROWS as usize).min(room) {
-        return Err(FileFault::Size);
-    }
-    Ok(rows)
+    let rows = size.checked_sub(LINE).ok_or(FileFault::Size)?;
+    count_rows(rows, LINE, (MOST_ROWS as usize).min(room))
 }
 
 // The row of a line that follows those of an account.
@@ -55,12 +50,14 @@ fn read_line(line: &[u8], account: &Account) -> Result<PageRow, RowFault>
 fn same_foot(numbers: [u64; 5], foot: Foot) -> bool
     ensures { result ≡ same_foot foot numbers }
 {
-    let [rows, clock, classes, bits, misses] = numbers;
-    rows == foot.rows as u64
-        && clock == foot.clock as u64
-        && classes == foot.classes as u64
-        && bits == foot.bits as u64
-        && misses == foot.misses as u64
+    numbers
+        == [
+            foot.rows as u64,
+            foot.clock as u64,
+            foot.classes as u64,
+            foot.bits as u64,
+            foot.misses as u64,
+        ]
 }
 
 // Whether the fields after a "=" are those of a foot: their form, the newline, and then their numbers.
@@ -79,13 +76,13 @@ fn read_numbers(fields: &[u8], foot: Foot) -> Result<(), RowFault>
 fn read_foot(line: &[u8], foot: Foot) -> Result<(), RowFault>
     ensures { result ≡ foot_read foot line.now }
 {
-    if line.len() > 0 && line[0] == b'=' {
-        return read_numbers(&line[1..], foot);
+    match line {
+        [b'=', fields @ ..] => read_numbers(fields, foot),
+        _ => Err(RowFault::Field(Numbered {
+            number: 1,
+            fault: FieldFault::Form,
+        })),
     }
-    Err(RowFault::Field(Numbered {
-        number: 1,
-        fault: FieldFault::Form,
-    }))
 }
 
 // Reads so many rows into the front of `out`, up to the first that is refused.
@@ -160,7 +157,7 @@ pub fn read_page<P: Pace>(
     ensures exact { PageExact (P.Pace.quanta quanta.now) opening.value bytes.now (length out.old) (page_read opening.value bytes.now (length out.old)) result }
     ensures back { ReadsBack (P.Pace.quanta quanta.now) opening.value bytes.now (length out.old) (page_read opening.value bytes.now (length out.old)) result }
 {
-    let rows = count_rows(bytes.len(), out.len())?;
+    let rows = count_lines(bytes.len(), out.len())?;
     read_rows(bytes, rows, opening, out)?;
     check_foot(&bytes[LINE * rows..], &out[0..rows], opening, quanta)
 }

@@ -9,19 +9,14 @@ use Rattle.text.specs.declared.fault.FileFault.TheVariants.{Row, Size}
 use Rattle.rows.specs.Columns.{schedule_row}
 use Rattle.rows.specs.Rows.{Within, row_read, row_shown}
 use Rattle.text.specs.Schedules.{Entry, entry_numbers, entry_shown, entry_of, entry_answer, stepped, step_from, schedule_step, schedule_answer, schedule_read, Adds, EntryRefused, ScheduleExact}
-use Rattle.rows.proofs.Fitting.{AllSound, sound_shape}
+use Rattle.rows.proofs.Fitting.{AllSound}
+use Rattle.rows.proofs.Tables.{sound_table, row_placed}
 use Rattle.rows.proofs.RowLaws.{length_row, row_back, row_shown_is, first_fault}
 use Rattle.text.proofs.FileLaws.{Kind, put_all, FitAll}
 use Rattle.text.proofs.WholeFiles.{whole_only, whole_size, whole_stops}
 
 schedule_sound : AllSound schedule_row
-schedule_sound = (
-  sound_shape 2 7 (omega arith) (omega arith) (lit< tt),
-  (
-    sound_shape 3 999 (omega arith) (omega arith) (lit< tt),
-    (sound_shape 11 1000000000 (omega arith) (omega arith) (lit< tt), tt),
-  ),
-)
+schedule_sound = sound_table schedule_row refl
 
 -- an entry whose step is taken, with a row of its own
 abbrev EntryFits : List (List ℕ) → Entry → Type 0
@@ -35,11 +30,7 @@ entry_back ladders e f = ap (step_from ladders) (row_back 1 schedule_row (entry_
 
 -- the numbers of a row within the limits are those of its entry
 numbers_back : (vs : List ℕ) → Within schedule_row vs → vs ≡ entry_numbers (entry_of vs)
-numbers_back [] w = absurd w
-numbers_back (a ∷ []) w = absurd w.1
-numbers_back (a ∷ b ∷ []) w = absurd w.1.1
-numbers_back (a ∷ b ∷ c ∷ []) w = refl
-numbers_back (a ∷ b ∷ c ∷ d ∷ vs) w = absurd w.1.1.1
+numbers_back vs w = row_placed schedule_row vs w
 
 module _ (ladders : List (List ℕ)) (row : List ℕ) where
   -- a row that was read shows its entry

@@ -2,7 +2,7 @@
 #![tactic(auto)]
 
 pub mod fault;
-mod file;
+pub mod file;
 pub mod list;
 pub mod pair;
 pub mod schedule;

@@ -1,13 +1,19 @@
-use Rattle.std.proofs.Common.{sym, arith}
+use Rattle.std.proofs.Common.{take, rules, sym, ap, ◌∙◌}
+use borrow.Author.Tests.{tests}
+use Rattle.std.proofs.lemmas.Iterator.{YieldsList-from_slice, YieldsList-from_take}
+use Rattle.std.proofs.lemmas.Iterator.Search.{position_from_yields_List}
 use Rattle.pace.specs.Steps.{ladders_of}
-use Rattle.text.proofs.Pairing.{pair_more, pair_stops, pair_all}
+use Rattle.text.proofs.Pairing.{lacking_at, lacks, pair_found}
 use Rattle.text.proofs.pair.pair.Goals as goal
 
-pub returns-then-not-has_step : goal.returns-then-not-has_step
-returns-then-not-has_step g c = pair_stops (ladders_of c.args.steps.now) c.args.records.now 50000 c.loop-i.i c.index-records-i.result c.index-records-i.is (omega arith) (omega arith) (sym c.if-not-has_step.ensures) c.loop-i.invariant
+pub returns-in-Some : goal.returns-in-Some
+returns-in-Some g c =
+    let test = lacks (ladders_of c.args.steps.now) in
+    let found = position_from_yields_List test c.position.new.self _ c.position.result c.position.ensures.ran (YieldsList-from_take 50000 (YieldsList-from_slice c.args.records.now cc) cc) (λ x b q k. search (rules, tests)) in
+    ap lacking_at (sym c.in-Some.is ∙ found) ∙ pair_found (ladders_of c.args.steps.now) (take 50000 c.args.records.now)
 
-pub loop-i-preserved : goal.loop-i-preserved
-loop-i-preserved g c = pair_more (ladders_of c.args.steps.now) c.args.records.now 50000 c.loop-i.i c.index-records-i.result c.index-records-i.is (omega arith) (omega arith) (sym c.if-not-has_step.ensures) c.loop-i.invariant
-
-pub returns : goal.returns
-returns g c = pair_all (ladders_of c.args.steps.now) c.args.records.now 50000 c.loop-i.i (omega arith) c.loop-i.invariant
+pub returns-in-None : goal.returns-in-None
+returns-in-None g c =
+    let test = lacks (ladders_of c.args.steps.now) in
+    let found = position_from_yields_List test c.position.new.self _ c.position.result c.position.ensures.ran (YieldsList-from_take 50000 (YieldsList-from_slice c.args.records.now cc) cc) (λ x b q k. search (rules, tests)) in
+    ap lacking_at (sym c.in-None.is ∙ found) ∙ pair_found (ladders_of c.args.steps.now) (take 50000 c.args.records.now)
