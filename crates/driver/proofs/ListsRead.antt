@@ -1,7 +1,8 @@
 -- What a list that was read has: as many replies as rows.
 use Rattle.std.proofs.Common.{◌≡◌, ℕ, zero, suc, ◌+◌, ◌-◌, ◌/◌, ◌%◌, ◌≤◌, min, ◌&&◌, eqb, leb, List, [], ◌∷◌, ◌++◌, length, take, drop, Some, None, Ok, Err, Option, Result, sym, refl, ap, ◌∙◌, inl, inr, arith}
 use Rattle.std.proofs.lemmas.List.{length_push, take_at, take_all}
-use Rattle.std.proofs.lemmas.Bool.{cases_Bool, and_parts, leb-true}
+use Rattle.std.specs.Result.{MatchResult, is_ok}
+use Rattle.std.proofs.lemmas.Bool.{both_ways, cases_Bool, and_parts, leb-true}
 use Rattle.source.specs.declared.reply.Reply.{Reply}
 use Rattle.rows.specs.declared.fault.Numbered.{Numbered}
 use Rattle.rows.specs.declared.fault.RowFault.{RowFault}
@@ -10,6 +11,12 @@ use Rattle.text.specs.declared.fault.FileFault.TheVariants.{Size}
 use Rattle.text.specs.Files.{Reading, row_count, ending, on_row, read_rows, answer_of, left_of}
 use Rattle.text.specs.Pairs.{pair_answer}
 use Rattle.text.specs.Lists.{reply_read, last_asked, onto, list_step, list_answer, list_read, over}
+
+-- what came through a change of the fault alone was there before
+pub mapped_ok : {T E D : Type 0} (r : Result T E) (q : Result T D) (n : T) (Says : E → Type 0) → MatchResult r (λ x. q ≡ Ok x) Says → is_ok q ≡ is_ok r
+    → q ≡ Ok n → r ≡ Ok n
+mapped_ok (Ok x) q n Says h alike e = let s : x ≡ n = cc in ap Ok s
+mapped_ok (Err f) q n Says h alike e = absurd (both_ways (is_ok q) alike (ap is_ok e))
 
 -- n rows without a fault add n replies
 after_row : (n : ℕ) (next : List (Reply ℕ) → Reading (List (Reply ℕ))) (k : ℕ) (rs : List (Reply ℕ)) (r : Result (Reply ℕ) RowFault)

@@ -2,9 +2,7 @@
 // none.
 #![tactic(auto)]
 
-ghost use Rattle.std.specs.Prelude.{◌≤◌, length, IfOk};
-
-use driver::job::{Printed, job};
+use driver::job::job;
 use source::reply::Reply;
 use std::io::{Read, Write};
 use std::process::ExitCode;
@@ -14,71 +12,47 @@ use std::{fs, io};
 const MOST_ROWS: usize = 1_800;
 
 // The bytes of a file that can matter: those of the longest one that is held, and one more to tell a longer one.
-const SCHEDULE_BYTES: usize = 128 * 17 + 1;
+const SCHEDULE_BYTES: u64 = 128 * 17 + 1;
 
-const LIST_BYTES: usize = 1_800 * 35 + 1;
+const LIST_BYTES: u64 = 1_800 * 35 + 1;
 
 // The bytes of the longest page.
 const PAGE_BYTES: usize = 1_801 * 36;
 
-// Reads the front of a file, as much as the buffer holds, and answers how many bytes came; a missing file is empty.
-fn read_front(rt: &HostRuntime, path: &str, buf: &mut [u8]) -> io::Result<usize>
-    ensures { IfOk result (λ n. n ≤ length buf.old) }
-{
-    let mut file = match fs::open(rt, path) {
-        Ok(file) => file,
-        Err(e) if e.kind() == io::ErrorKind::NotFound => return Ok(0),
-        Err(e) => return Err(e),
-    };
-    let mut length = 0;
-    while length < buf.len() {
-        let n = file.read(&mut buf[length..])?;
-        if n == 0 {
-            break;
+// Reads the front of a file, at most so many bytes; a missing file is empty.
+fn read_front(rt: &HostRuntime, path: &str, most: u64) -> io::Result<Vec<u8>> {
+    let mut bytes = Vec::new(rt.alloc());
+    match fs::open(rt, path) {
+        Ok(file) => {
+            file.take(most).read_to_end(&mut bytes)?;
         }
-        length += n;
+        Err(e) if e.kind() == io::ErrorKind::NotFound => {}
+        Err(e) => return Err(e),
     }
-    Ok(length)
+    Ok(bytes)
 }
 
-// Prints the page, or the refusal line; answers whether it was a page.
-fn print(rt: &HostRuntime) -> anyhow::Result<bool> {
-    let heap = rt.alloc();
+// Prints the page and ends with status 0, or prints the refusal line and ends with status 1; a file that cannot be
+// read is reported on standard error, with status 1 too.
+fn main(rt: HostRuntime) -> anyhow::Result<ExitCode> {
     let none = Reply {
         asked: 0,
         class: 0,
         ready: 0,
         body: 0,
     };
-    let mut schedule = vec![in heap; 0; SCHEDULE_BYTES]?;
-    let mut list = vec![in heap; 0; LIST_BYTES]?;
-    let mut records = vec![in heap; none; MOST_ROWS]?;
-    let mut page = vec![in heap; 0; PAGE_BYTES]?;
-    let schedule_length = read_front(rt, "quotes.sch", &mut schedule)?;
-    let list_length = read_front(rt, "quotes.lst", &mut list)?;
-    match job(
-        &schedule[0..schedule_length],
-        &list[0..list_length],
-        &mut records,
-        &mut page,
-    ) {
-        Printed::Page(length) => {
-            rt.stdout().write_all(&page[0..length])?;
-            Ok(true)
+    let schedule = read_front(&rt, "quotes.sch", SCHEDULE_BYTES)?;
+    let list = read_front(&rt, "quotes.lst", LIST_BYTES)?;
+    let mut records = vec![in rt.alloc(); none; MOST_ROWS]?;
+    let mut page = vec![in rt.alloc(); 0; PAGE_BYTES]?;
+    match job(&schedule, &list, &mut records, &mut page) {
+        Ok(length) => {
+            rt.stdout().write_all(&page[..length])?;
+            Ok(ExitCode::SUCCESS)
         }
-        Printed::Refusal(line) => {
+        Err(line) => {
             rt.stdout().write_all(&line)?;
-            Ok(false)
+            Ok(ExitCode::FAILURE)
         }
-    }
-}
-
-// Ends with status 0 after a page and with status 1 after a refusal line; a file that cannot be read is reported on
-// standard error, with status 1 too.
-fn main(rt: HostRuntime) -> anyhow::Result<ExitCode> {
-    if print(&rt)? {
-        Ok(ExitCode::SUCCESS)
-    } else {
-        Ok(ExitCode::FAILURE)
     }
 }
