@@ -9,6 +9,7 @@ use promise::event::{Event, Request};
 use source::Source;
 use source::body::Word;
 use source::bucket::Bucket;
+use source::refusal::Refused;
 use source::reply::{End, Reply};
 use source::setting::Width;
 use source::trace::Trace;

@@ -1,5 +1,6 @@
 // Rows found by their release ticks, in buffers that are sorted and that are not.
 use lookup::{NoRow, find, span};
+use source::refusal::Refused;
 use std::test::Fail;
 use tally::line::PageRow;
 

@@ -6,6 +6,7 @@ use pace::doubling::Doubling;
 use pace::fault::QuantumFault;
 use page::begin;
 use page::sheet::OpenPage;
+use source::refusal::Refused;
 use std::test::Fail;
 use tally::line::{PageFault, PageRow};
 

@@ -8,7 +8,7 @@ use rows::row::Misfit;
 use std::process::Abort;
 use std::test::Fail;
 use tally::line::PageRow;
-use text::fault::{FileFault, Refusal};
+use text::fault::FileFault;
 
 const fn row(asked: u32, class: u8, release: u32, misses: u32) -> PageRow {
     PageRow {
@@ -45,7 +45,7 @@ fn refuses(
     bytes: &[u8],
     opening: u32,
     quantum: u32,
-    refusal: Refusal,
+    refusal: [u32; 3],
 ) -> Result<(), Fail> {
     let mut out = [OLD; 5];
     let Err(fault) = read_page(
@@ -56,7 +56,7 @@ fn refuses(
     ) else {
         return Err(Fail::new("a page was read"));
     };
-    assert_eq!(rt; fault.refusal(), refusal);
+    assert_eq!(rt; fault.refusal().numbers(), refusal);
     Ok(())
 }
 
@@ -94,16 +94,12 @@ fn a_page_without_rows_is_its_foot(rt: HostRuntime) -> Result<(), Fail> {
         foot,
         6,
         10,
-        Refusal {
-            number: 5,
-            row: 1,
-            field: 0,
-        },
+        [5, 1, 0],
     )
 }
 
 // The worked page with one byte changed is refused.
-fn refuses_changed(rt: &impl Abort, at: usize, byte: u8, refusal: Refusal) -> Result<(), Fail> {
+fn refuses_changed(rt: &impl Abort, at: usize, byte: u8, refusal: [u32; 3]) -> Result<(), Fail> {
     let mut bytes = *WORKED;
     if at < 180 {
         bytes[at] = byte;
@@ -112,7 +108,7 @@ fn refuses_changed(rt: &impl Abort, at: usize, byte: u8, refusal: Refusal) -> Re
 }
 
 // The worked page cut to so many bytes is refused.
-fn refuses_cut(rt: &impl Abort, bytes: usize, refusal: Refusal) -> Result<(), Fail> {
+fn refuses_cut(rt: &impl Abort, bytes: usize, refusal: [u32; 3]) -> Result<(), Fail> {
     let page = *WORKED;
     refuses(rt, &page[0..bytes.min(180)], 0, 10, refusal)
 }
@@ -142,7 +138,7 @@ fn one_byte_changed_is_refused_where_it_stands(rt: HostRuntime) -> Result<(), Fa
         (178, b' ', 1, 5, 6),
         (179, b' ', 3, 5, 0),
     ] {
-        refuses_changed(&rt, at, byte, Refusal { number, row, field })?;
+        refuses_changed(&rt, at, byte, [number, row, field])?;
     }
     Ok(())
 }
@@ -150,19 +146,11 @@ fn one_byte_changed_is_refused_where_it_stands(rt: HostRuntime) -> Result<(), Fa
 #[test]
 fn a_page_that_is_cut_lacks_its_foot_or_is_no_page(rt: HostRuntime) -> Result<(), Fail> {
     for rows in 1..5u32 {
-        let refusal = Refusal {
-            number: 1,
-            row: rows,
-            field: 1,
-        };
+        let refusal = [1, rows, 1];
         refuses_cut(&rt, 36 * rows as usize, refusal)?;
     }
     for bytes in [0, 35, 37, 143, 179] {
-        let refusal = Refusal {
-            number: 4,
-            row: 0,
-            field: 0,
-        };
+        let refusal = [4, 0, 0];
         refuses_cut(&rt, bytes, refusal)?;
     }
     Ok(())
@@ -170,17 +158,9 @@ fn a_page_that_is_cut_lacks_its_foot_or_is_no_page(rt: HostRuntime) -> Result<()
 
 #[test]
 fn another_opening_or_other_quanta_are_refused(rt: HostRuntime) -> Result<(), Fail> {
-    let first = Refusal {
-        number: 5,
-        row: 1,
-        field: 0,
-    };
+    let first = [5, 1, 0];
     refuses(&rt, WORKED, 10, 10, first)?;
-    let foot = Refusal {
-        number: 5,
-        row: 5,
-        field: 0,
-    };
+    let foot = [5, 5, 0];
     refuses(&rt, WORKED, 0, 20, foot)
 }
 

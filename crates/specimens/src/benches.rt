@@ -4,6 +4,7 @@ use bench::{Bench, Job};
 use source::Source;
 use source::body::{Place, Word};
 use source::fault::OutOfRange;
+use source::refusal::Refused;
 use source::reply::{End, Reply};
 use std::test::Fail;
 

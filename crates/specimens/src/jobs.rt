@@ -1,5 +1,5 @@
 // The job on bytes: pages, and every refusal that a schedule and a list can cause.
-use driver::job::{Printed, job};
+use driver::job::job;
 use source::reply::Reply;
 use std::process::Abort;
 use std::test::Fail;
@@ -16,12 +16,12 @@ fn prints(rt: &impl Abort, schedule: &[u8], list: &[u8], text: &[u8]) -> Result<
     let mut records = [NO_REPLY; 3];
     let mut page = [0u8; 144];
     match job(schedule, list, &mut records, &mut page) {
-        Printed::Page(length) => {
+        Ok(length) => {
             assert!(rt; length <= 144);
             assert!(rt; &page[0..length] == text);
             Ok(())
         }
-        Printed::Refusal(line) => {
+        Err(line) => {
             let line: &[u8] = &line;
             assert!(rt; line == text);
             Ok(())
@@ -49,8 +49,8 @@ fn a_page_without_room_for_its_foot_is_refusal_11(rt: HostRuntime) -> Result<(),
     let mut records = [NO_REPLY; 3];
     let mut page = [0u8; 35];
     match job(b"", b"", &mut records, &mut page) {
-        Printed::Page(_) => Err(Fail::new("a page of 35 bytes")),
-        Printed::Refusal(line) => {
+        Ok(_) => Err(Fail::new("a page of 35 bytes")),
+        Err(line) => {
             let line: &[u8] = &line;
             assert!(rt; line == b"    11     3     0     0\n".as_slice());
             Ok(())

@@ -4,6 +4,7 @@ use pace::fault::{QuantumFault, StepFault, UnknownClass};
 use pace::rules::{OwnRule, SharedRule};
 use pace::steps::Steps;
 use pace::{Pace, Penalty};
+use source::refusal::Refused;
 
 #[test]
 fn two_steps_give_their_waits_and_then_double(rt: HostRuntime) {

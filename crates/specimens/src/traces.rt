@@ -1,6 +1,7 @@
 // Traces, and the refusals' numbers.
 use source::Source;
 use source::body::{Place, Word};
+use source::refusal::Refused;
 use source::reply::{End, Reply};
 use source::trace::Trace;
 use std::test::Fail;

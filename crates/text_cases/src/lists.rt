@@ -2,7 +2,7 @@
 use source::reply::Reply;
 use std::process::Abort;
 use std::test::Fail;
-use text::fault::{FileFault, ListFault, Refusal};
+use text::fault::{FileFault, ListFault};
 use text::list::{read_list, write_list};
 
 const fn reply(asked: u32, class: u8, ready: u32, body: u32) -> Reply<u32> {
@@ -33,14 +33,7 @@ fn refuses(rt: &impl Abort, second: &[u8; 35], number: u32, field: u32) -> Resul
     let Err(fault) = read_list(&bytes, &mut out) else {
         return Err(Fail::new("a list was read"));
     };
-    assert_eq!(rt;
-        fault.refusal(),
-        Refusal {
-            number,
-            row: 2,
-            field,
-        }
-    );
+    assert_eq!(rt; fault.refusal().numbers(), [number, 2, field]);
     assert_eq!(rt; out, [reply(5, 0, 5, 1), OLD, OLD]);
     Ok(())
 }
@@ -102,14 +95,7 @@ fn the_size_of_a_list_is_judged_before_its_rows(rt: HostRuntime) {
     let mut out = [OLD; 2];
     assert_eq!(rt; read_list(b"", &mut out), Ok(0));
     assert_eq!(rt; out, [OLD; 2]);
-    assert_eq!(rt;
-        FileFault::Size.refusal(),
-        Refusal {
-            number: 4,
-            row: 0,
-            field: 0,
-        }
-    );
+    assert_eq!(rt; FileFault::Size.refusal().numbers(), [4, 0, 0]);
 }
 
 #[test]
@@ -137,14 +123,7 @@ fn unwritten(rt: &impl Abort, second: Reply<u32>) -> Result<(), Fail> {
     let Err(fault) = write_list(&[reply(5, 0, 5, 1), second], &mut bytes) else {
         return Err(Fail::new("a list was written"));
     };
-    assert_eq!(rt;
-        fault.refusal(),
-        Refusal {
-            number: 5,
-            row: 2,
-            field: 0,
-        }
-    );
+    assert_eq!(rt; fault.refusal().numbers(), [5, 2, 0]);
     assert_eq!(rt; bytes, [7; 69]);
     Ok(())
 }
@@ -171,14 +150,7 @@ fn a_buffer_one_byte_too_short_is_refusal_11(rt: HostRuntime) {
     let list = [reply(5, 0, 5, 1), reply(5, 0, 5, 2)];
     assert_eq!(rt; write_list(&list, &mut bytes), Err(ListFault::Room));
     assert_eq!(rt; bytes, [7; 69]);
-    assert_eq!(rt;
-        ListFault::Room.refusal(),
-        Refusal {
-            number: 11,
-            row: 0,
-            field: 0,
-        }
-    );
+    assert_eq!(rt; ListFault::Room.refusal().numbers(), [11, 0, 0]);
 }
 
 #[test]

@@ -5,7 +5,7 @@ use source::reply::Reply;
 use std::alloc::AllocError;
 use std::process::Abort;
 use std::test::Fail;
-use text::fault::{FileFault, Refusal};
+use text::fault::FileFault;
 use text::pair::{NoStep, pair};
 use text::schedule::read_schedule;
 
@@ -19,14 +19,7 @@ fn refuses(rt: &impl Abort, second: &[u8; 17], number: u32, field: u32) -> Resul
     let Err(fault) = read_schedule(&bytes, &mut steps) else {
         return Err(Fail::new("a schedule was read"));
     };
-    assert_eq!(rt;
-        fault.refusal(),
-        Refusal {
-            number,
-            row: 2,
-            field,
-        }
-    );
+    assert_eq!(rt; fault.refusal().numbers(), [number, 2, field]);
     assert!(rt; steps.has_step(0) && !steps.has_step(1) && !steps.has_step(7));
     assert_eq!(rt; steps.wait(0, 1), Ok(20));
     Ok(())
@@ -141,14 +134,7 @@ fn a_seventeenth_step_of_a_class_is_refusal_10(rt: HostRuntime) -> Result<(), Fa
     let Err(fault) = read_schedule(bytes.as_slice(), &mut steps) else {
         return Err(Fail::new("seventeen steps were read"));
     };
-    assert_eq!(rt;
-        fault.refusal(),
-        Refusal {
-            number: 10,
-            row: 17,
-            field: 0,
-        }
-    );
+    assert_eq!(rt; fault.refusal().numbers(), [10, 17, 0]);
     assert_eq!(rt; steps.wait(3, 16), Ok(199_998));
     Ok(())
 }
@@ -167,14 +153,7 @@ fn the_first_row_whose_class_has_no_step_is_refusal_12(rt: HostRuntime) {
     ] {
         assert_eq!(rt; pair(&of_classes(classes), &steps), answer);
     }
-    assert_eq!(rt;
-        NoStep { row: 3 }.refusal(),
-        Refusal {
-            number: 12,
-            row: 3,
-            field: 2,
-        }
-    );
+    assert_eq!(rt; NoStep { row: 3 }.refusal().numbers(), [12, 3, 2]);
 }
 
 // Replies of these classes; their bodies hold nothing.
