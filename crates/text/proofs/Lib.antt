@@ -1,5 +1,6 @@
 pub mod Sizes
 pub mod FileReading
+pub mod Buffers
 pub mod ListReading
 pub mod Pairing
 pub mod FileLaws

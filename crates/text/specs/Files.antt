@@ -5,8 +5,11 @@
 --   read_rows     rows from the top, up to the first that is refused
 --   file_answer   the number of rows, or the first fault
 --   file_read     the state after the rows before the first fault; a file of a wrong size changes nothing
---   RowTaken      one row read in place
-use Rattle.std.specs.Prelude.{◌≡◌, ℕ, zero, suc, ◌+◌, ◌/◌, ◌%◌, true, false, ◌&&◌, List, length, take, drop, Some, None, Ok, Err, Option, Result, ◌==◌, nat_le}
+--   RowTaken      one row taken: its answer, and what is so of the state that it leaves
+--   RowsRead      the same of a number of rows
+--   fill          the step of rows whose items are read into a buffer, and what a buffer then holds
+use Rattle.std.specs.Prelude.{◌≡◌, ℕ, zero, suc, ◌+◌, ◌/◌, ◌%◌, true, false, ◌&&◌, List, [], ◌∷◌, ◌++◌, length, take, drop, Some, None, Ok, Err, Option, Result, ◌==◌, nat_le}
+use Rattle.std.specs.Borrow.{MutBor}
 use Rattle.rows.specs.declared.fault.Numbered.{Numbered}
 use Rattle.rows.specs.declared.fault.RowFault.{RowFault}
 use Rattle.text.specs.declared.fault.FileFault.{FileFault}
@@ -32,15 +35,20 @@ module _ {S : Type 0} where
   on_row k s (Err f) next = record { left = s; fault = Some (record { number = k; fault = f }) }
 
   module _ (step : S → List ℕ → Result S RowFault) where
-    abbrev pub RowTaken : S → List ℕ → S → Result (Unit {0}) RowFault → Type 0
-    RowTaken s row t (Ok u) = step s row ≡ Ok t
-    RowTaken s row t (Err f) = (step s row ≡ Err f) × (t ≡ s)
+    -- P of the state that a row leaves
+    abbrev pub RowTaken : S → List ℕ → (S → Type 0) → Result (Unit {0}) RowFault → Type 0
+    RowTaken s row P (Ok u) = (t : S) × (step s row ≡ Ok t) × P t
+    RowTaken s row P (Err f) = (step s row ≡ Err f) × P s
 
     module _ (width : ℕ) where
       -- n rows from the front of the bytes, of which the first is row k
       abbrev pub read_rows : ℕ → List ℕ → ℕ → S → Reading S
       read_rows zero bytes k s = record { left = s; fault = None }
       read_rows (suc n) bytes k s = on_row k s (step s (take width bytes)) (λ t. read_rows n (drop width bytes) (k + 1) t)
+
+      -- the answer of a reading of n rows, and P of the state that it leaves
+      abbrev pub RowsRead : ℕ → List ℕ → S → (S → Type 0) → Result ℕ FileFault → Type 0
+      RowsRead n bytes s P r = (r ≡ ending n (read_rows n bytes 1 s).fault) × P (read_rows n bytes 1 s).left
 
       module _ (start : S) (bytes : List ℕ) where
         abbrev pub answer_of : Result ℕ FileFault → Result ℕ FileFault
@@ -56,3 +64,23 @@ module _ {S : Type 0} where
 
         abbrev pub file_read : ℕ → S → S
         file_read most old = left_of old (row_count width most (length bytes))
+
+-- a buffer of items, by the name of its loan: those read, and what is left of what it held
+pub record Filled (A : Type 0) : Type 0 where
+  pub name : ℕ
+  pub front : List A
+  pub rest : List A
+
+module _ {A : Type 0} where
+  -- an item that was read takes the place of the first that is left
+  abbrev pub put_in : Filled A → Result A RowFault → Result (Filled A) RowFault
+  put_in s (Ok a) = Ok (record { name = s.name; front = s.front ++ a ∷ []; rest = drop 1 s.rest })
+  put_in s (Err f) = Err f
+
+  -- by what a row is read as after the items before it
+  abbrev pub fill : (List A → List ℕ → Result A RowFault) → Filled A → List ℕ → Result (Filled A) RowFault
+  fill item s row = put_in s (item s.front row)
+
+  -- the buffer holds that, and so many items were read
+  abbrev pub Holds : Filled A → MutBor (List A) → ℕ → Type 0
+  Holds s out count = (out.now ≡ s.front ++ s.rest) × (out.ghost_name ≡ s.name) × (count ≡ length s.front)

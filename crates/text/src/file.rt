@@ -1,8 +1,30 @@
 // Files of rows: how many rows a file has.
-ghost use Rattle.std.specs.Prelude.{◌≡◌, ℕ, ◌*◌, ◌≤◌, IfOk};
-ghost use Rattle.text.specs.Files.{row_count};
+ghost use Rattle.std.specs.Prelude.{◌≡◌, ℕ, ◌+◌, ◌*◌, ◌/◌, ◌<◌, ◌≤◌, ◌^◌, List, Ok, Result, length, IfOk};
+ghost use Rattle.rows.specs.declared.fault.RowFault.{RowFault};
+ghost use Rattle.text.specs.Files.{row_count, RowTaken, RowsRead};
 
 use super::fault::FileFault;
+use rows::fault::{RowFault, at_number};
+
+// What takes the rows of a file one after another: what stands there, and what a row makes of it.
+pub trait RowTaker {
+    ghost State: { Type 0 };
+
+    ghost stands: { State → Self → Type 0 };
+
+    ghost step: { State → List ℕ → Result State RowFault };
+
+    // how many more rows there is room for
+    ghost room: { State → ℕ };
+
+    // Takes a row; refused, it leaves what stood there.
+    fn take_row(&mut self, row: &[u8]) -> Result<(), RowFault>
+        requires { (s : State) × stands s self.old × (1 ≤ room s) }
+        ensures { (s : State) → stands s self.old → RowTaken step s row.now (λ t. stands t self.new) result };
+
+    // A row takes the room of one row at most.
+    ghost takes_room: { (s t : State) (row : List ℕ) → step s row ≡ Ok t → room s ≤ room t + 1 };
+}
 
 // The rows of a file of `size` bytes: a whole number of them, and no more than `most`.
 pub fn count_rows(size: usize, width: usize, most: usize) -> Result<usize, FileFault>
@@ -13,6 +35,25 @@ pub fn count_rows(size: usize, width: usize, most: usize) -> Result<usize, FileF
     let rows = size / width;
     if size % width != 0 || rows > most {
         return Err(FileFault::Size);
+    }
+    Ok(rows)
+}
+
+// Reads so many rows of a width one after another, up to the first that is refused.
+pub fn read_rows<T: RowTaker>(
+    bytes: &[u8],
+    rows: usize,
+    width: usize,
+    taker: &mut T,
+) -> Result<usize, FileFault>
+    requires wide { 1 ≤ width }
+    requires whole { width * rows ≡ length bytes.now }
+    requires few { rows ≤ 50000 }
+    requires room { (s : T.State) × T.stands s taker.old × (rows ≤ T.room s) }
+    ensures { (s : T.State) → T.stands s taker.old → RowsRead T.step width rows bytes.now s (λ t. T.stands t taker.new) result }
+{
+    for (i, row) in bytes.chunks_exact(width).enumerate() {
+        at_number(i as u32 + 1, taker.take_row(row))?;
     }
     Ok(rows)
 }

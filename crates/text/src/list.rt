@@ -1,13 +1,15 @@
 // List files: a reply to a row.
-ghost use Rattle.std.specs.Prelude.{◌≡◌, ℕ, ◌*◌, ◌≤◌, true, [], length};
+ghost use Rattle.std.specs.Prelude.{◌≡◌, ℕ, ◌*◌, ◌≤◌, ◌++◌, true, [], length};
+ghost use Rattle.source.specs.declared.reply.Reply.{Reply};
 ghost use Rattle.rows.specs.Columns.{list_row};
 ghost use Rattle.rows.specs.Rows.{fits};
-ghost use Rattle.text.specs.Files.{ending, read_rows};
-ghost use Rattle.text.specs.Lists.{numbers_of, reply_shown, reply_read, list_step, list_answer, list_read, ListExact, over};
+ghost use Rattle.text.specs.Files.{Filled, Holds, fill};
+ghost use Rattle.text.specs.Lists.{numbers_of, reply_shown, reply_read, list_step, list_answer, list_read, ListExact, over, last_asked, reply_after};
+ghost use Rattle.text.specs.Filling.{fill_room};
 ghost use Rattle.text.specs.ListWriting.{check_answer, list_write_answer, ListWritten, ReadsBack};
 
 use super::fault::{FileFault, ListFault};
-use super::file::count_rows;
+use super::file::{RowTaker, count_rows, read_rows};
 use rows::fault::{Numbered, RowFault, at_number};
 use rows::layout::LIST_ROW;
 use source::reply::Reply;
@@ -31,23 +33,46 @@ fn read_reply(row: &[u8], last: u32) -> Result<Reply<u32>, RowFault>
     })
 }
 
-// Reads so many rows into the front of `out`, up to the first that is refused.
-fn read_rows(bytes: &[u8], rows: usize, out: &mut [Reply<u32>]) -> Result<usize, FileFault>
-    requires whole { 35 * rows ≡ length bytes.now }
-    requires few { rows ≤ 50000 }
-    requires room { rows ≤ length out.old }
-    ensures value { result ≡ ending rows (read_rows list_step 35 rows bytes.now 1 []).fault }
-    ensures after { out.new ≡ over (read_rows list_step 35 rows bytes.now 1 []).left out.old }
-{
-    let width = LIST_ROW.bytes;
-    let mut last = 0;
-    for i in 0..rows {
-        let start = width * i;
-        let reply = at_number(i as u32 + 1, read_reply(&bytes[start..start + width], last))?;
-        last = reply.asked;
-        out[i] = reply;
+// The rows of a list, read into the front of a buffer: how many were read, and when the last of them was asked.
+#[derive(Drop)]
+struct ListRows<'a> {
+    out: &'a mut [Reply<u32>],
+    count: usize,
+    last: u32,
+}
+
+impl<'a> ListRows<'a> {
+    fn new(out: &'a mut [Reply<u32>]) -> ListRows<'a>
+        ensures same { result.out.ghost_name ≡ out.entry.ghost_name }
+        ensures value { result.out.now ≡ out.old }
+        ensures none { (result.count ≡ 0) × (result.last ≡ 0) }
+    {
+        ListRows {
+            out,
+            count: 0,
+            last: 0,
+        }
     }
-    Ok(rows)
+}
+
+impl RowTaker for ListRows<'_> {
+    ghost State = { Filled (Reply ℕ) };
+
+    ghost stands = { λ s self. Holds s self.out self.count × (self.last ≡ last_asked 0 s.front) };
+
+    ghost step = { fill reply_after };
+
+    ghost room = { λ s. length s.rest };
+
+    fn take_row(&mut self, row: &[u8]) -> Result<(), RowFault> {
+        let reply = read_reply(row, self.last)?;
+        self.out[self.count] = reply;
+        self.count += 1;
+        self.last = reply.asked;
+        Ok(())
+    }
+
+    ghost takes_room = { fill_room reply_after };
 }
 
 // Reads a list into the front of `out`, and answers how many replies it has. Refused for its size, it writes nothing;
@@ -59,7 +84,8 @@ pub fn read_list(bytes: &[u8], out: &mut [Reply<u32>]) -> Result<usize, FileFaul
 {
     let most = MOST_REPLIES.min(out.len());
     let rows = count_rows(bytes.len(), LIST_ROW.bytes, most)?;
-    read_rows(bytes, rows, out)
+    let mut list = ListRows::new(out);
+    read_rows(bytes, rows, LIST_ROW.bytes, &mut list)
 }
 
 // Whether the replies are a lawful list of at most 50,000.

@@ -1,42 +1,36 @@
 // Schedule files: a step of a pace to a row.
-ghost use Rattle.std.specs.Prelude.{◌≡◌, ℕ, ◌*◌, ◌≤◌, length, Err};
+ghost use Rattle.std.specs.Prelude.{◌≡◌, ℕ, List, Err};
 ghost use Rattle.text.specs.declared.fault.FileFault.TheVariants.{Size};
-ghost use Rattle.pace.specs.Steps.{ladders_of, no_steps};
-ghost use Rattle.text.specs.Files.{RowTaken, ending, read_rows};
+ghost use Rattle.pace.specs.Steps.{ladders_of};
+ghost use Rattle.std.proofs.Common.{rules};
 ghost use Rattle.text.specs.Schedules.{schedule_step, schedule_answer, schedule_read, ScheduleExact};
 
 use super::fault::FileFault;
-use super::file::count_rows;
+use super::file::{RowTaker, count_rows, read_rows};
 use pace::steps::Steps;
-use rows::fault::{RowFault, at_number};
+use rows::fault::RowFault;
 use rows::layout::SCHEDULE_ROW;
 
 // A schedule holds at most this many rows.
 pub const MOST_STEPS: usize = 128;
 
-// Adds the step of a row; refused, it leaves the steps as they were.
-fn read_step(row: &[u8], steps: &mut Steps) -> Result<(), RowFault>
-    ensures { RowTaken schedule_step (ladders_of steps.old) row.now (ladders_of steps.new) result }
-{
-    let [class, epoch, wait] = SCHEDULE_ROW.read(row)?;
-    steps.add(class as u8, epoch as u32, wait as u32)?;
-    Ok(())
-}
+impl RowTaker for Steps {
+    ghost State = { List (List ℕ) };
 
-// Empties the steps, and adds those of so many rows, up to the first that is refused.
-fn read_rows(bytes: &[u8], rows: usize, steps: &mut Steps) -> Result<usize, FileFault>
-    requires whole { 17 * rows ≡ length bytes.now }
-    requires few { rows ≤ 128 }
-    ensures value { result ≡ ending rows (read_rows schedule_step 17 rows bytes.now 1 no_steps).fault }
-    ensures after { ladders_of steps.new ≡ (read_rows schedule_step 17 rows bytes.now 1 no_steps).left }
-{
-    *steps = Steps::new();
-    let width = SCHEDULE_ROW.bytes;
-    for i in 0..rows {
-        let start = width * i;
-        at_number(i as u32 + 1, read_step(&bytes[start..start + width], steps))?;
+    ghost stands = { λ ladders steps. ladders_of steps ≡ ladders };
+
+    ghost step = { schedule_step };
+
+    ghost room = { λ _. 128 };
+
+    // Adds the step of a row; refused, it leaves the steps as they were.
+    fn take_row(&mut self, row: &[u8]) -> Result<(), RowFault> {
+        let [class, epoch, wait] = SCHEDULE_ROW.read(row)?;
+        self.add(class as u8, epoch as u32, wait as u32)?;
+        Ok(())
     }
-    Ok(rows)
+
+    ghost takes_room = { λ _ _ _ _. Prim.search rules };
 }
 
 // Reads a schedule in place of the steps, and answers how many rows it has. Refused for its size, it leaves the steps
@@ -48,5 +42,6 @@ pub fn read_schedule(bytes: &[u8], steps: &mut Steps) -> Result<usize, FileFault
     ensures same { result ≡ Err Size → steps.new ≡ steps.old }
 {
     let rows = count_rows(bytes.len(), SCHEDULE_ROW.bytes, MOST_STEPS)?;
-    read_rows(bytes, rows, steps)
+    *steps = Steps::new();
+    read_rows(bytes, rows, SCHEDULE_ROW.bytes, steps)
 }

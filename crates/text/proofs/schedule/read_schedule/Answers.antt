@@ -9,11 +9,12 @@ pub returns : goal.returns
 returns c =
     let size = c.in_ok-rows.ensures.value in
     let old = ladders_of c.args.steps.now in
-    let value = c.read_rows.ensures.value ∙ file_answer_is schedule_step 17 no_steps c.args.bytes.now c.in_ok-rows.rows 128 old size in
-    let after = c.read_rows.ensures.after ∙ file_left schedule_step 17 no_steps c.args.bytes.now c.in_ok-rows.rows 128 old size in
+    let read = c.read_rows.ensures no_steps c.new.ensures in
+    let value = read.0 ∙ file_answer_is schedule_step 17 no_steps c.args.bytes.now c.in_ok-rows.rows 128 old size in
+    let after = read.1 ∙ file_left schedule_step 17 no_steps c.args.bytes.now c.in_ok-rows.rows 128 old size in
     record {
       value = value;
       after = after;
       exact = subst (λ t. ScheduleExact c.args.bytes.now t c.read_rows.result) (sym after) (schedule_exact c.args.bytes.now old c.read_rows.result value);
-      same = λ e. absurd (rows_not_size _ _ _ c.read_rows.ensures.value e);
+      same = λ e. absurd (rows_not_size _ _ _ read.0 e);
     }
