@@ -4,11 +4,12 @@ use lib.ListN.{length-map, get_or-map}
 use lib.Seq.{map-set}
 use Rattle.std.proofs.lemmas.List.Sums.{sum-map, sum_by-set}
 use Rattle.std.proofs.lemmas.Bool.{cases_eq}
+use Rattle.source.specs.Replies.{horizon}
 use Rattle.promise.specs.declared.release.Settled.{Settled}
 use Rattle.gate.specs.declared.row.Row.{Row}
 use Rattle.gate.specs.Rows.{no_row, misses_at, misses_in, releases_in}
 use Rattle.promise.proofs.Sums.{sum_few}
-use Rattle.promise.proofs.Settling.{Risen, few}
+use Rattle.promise.proofs.Settling.{few}
 
 pub misses_at_is : (rows : List Row) (c : ℕ) → misses_at rows c ≡ get_or (misses_in rows) c 0
 misses_at_is rows c = sym (get_or-map (λ (r : Row). r.misses) rows c no_row)
@@ -16,11 +17,15 @@ misses_at_is rows c = sym (get_or-map (λ (r : Row). r.misses) rows c no_row)
 pub releases_at : (rows : List Row) (c : ℕ) → (get_or rows c no_row).releases ≡ get_or (releases_in rows) c 0
 releases_at rows c = sym (get_or-map (λ (r : Row). r.releases) rows c no_row)
 
+-- so many doublings fit between an opening and a tick
+pub few_between : (n opening tick : ℕ) → 2 ^ n - 1 ≤ tick - opening → tick ≤ horizon → n ≤ 29
+few_between n opening tick slow within = few n tick (omega (arith, slow)) within
+
 -- what a ledger's facts give: no class has more than 29 misses, and all have at most 232
 module _ (rows : List Row) (opening clock : ℕ) (table : length rows ≡ 8) (within : clock ≤ 1000000000)
     (charged : (c : ℕ) → c < 8 → 2 ^ misses_at rows c - 1 ≤ clock - opening) where
   pub own_few : (c : ℕ) → c < 8 → misses_at rows c ≤ 29
-  own_few c h = few (misses_at rows c) (clock - opening) (omega (arith, charged c h)) (omega arith)
+  own_few c h = few_between (misses_at rows c) opening clock (charged c h) within
 
   pub all_few : sum (misses_in rows) ≤ 232
   all_few =
@@ -51,19 +56,18 @@ module _ (rows : List Row) (c : ℕ) (s : Settled) (row : Row) (is : row ≡ cha
       omega (arith, sum_by-set (λ (r : Row). r.releases) rows c row no_row short, sum-map (λ (r : Row). r.releases) rows, sum-map (λ (r : Row). r.releases) (set rows c row))
 
   -- the ledger's fact about the misses of each class stays
-  pub charged_set : (opening clock base : ℕ) → opening ≤ clock → clock ≤ base → Risen base (misses_at rows c) s
+  pub charged_set : (opening clock : ℕ) → clock ≤ s.tick → 2 ^ (misses_at rows c + s.misses) - 1 ≤ s.tick - opening
       → ((i : ℕ) → i < 8 → 2 ^ misses_at rows i - 1 ≤ clock - opening)
       → (i : ℕ) → i < 8 → 2 ^ misses_at (set rows c row) i - 1 ≤ s.tick - opening
-  charged_set opening clock base oc cb up old i lt =
+  charged_set opening clock later slow old i lt =
       elim (cases_eq i c) [
         | inl e ↦
             (let same : get_or (set rows c row) i no_row ≡ charged_row rows c s
             = ap (λ n. get_or (set rows c row) n no_row) e ∙ get_or-set_same rows c row no_row short ∙ is in
             let p : 2 ^ misses_at (set rows c row) i ≡ 2 ^ (misses_at rows c + s.misses) = ap (λ (r : Row). 2 ^ r.misses) same in
-            let q : 2 ^ misses_at rows i ≡ 2 ^ misses_at rows c = ap (λ n. 2 ^ misses_at rows n) e in
-            omega (arith, old i lt, up.rises, up.doubled))
+            omega (arith, slow))
         | inr ne ↦
             (let other : 2 ^ misses_at (set rows c row) i ≡ 2 ^ misses_at rows i
             = ap (λ (r : Row). 2 ^ r.misses) (get_or-set_other rows c i row no_row ne) in
-            omega (arith, old i lt, up.rises))
+            omega (arith, old i lt))
       ]

@@ -12,11 +12,15 @@ use Rattle.gate.proofs.Gate.settle.Goals as goal
 pub settle-requires : goal.settle-requires
 settle-requires g c =
     let l = c.args.self.now.ledger in
+    omega (arith, all_few l.rows l.opening l.clock l.table l.within l.charged, l.summed)
+
+pub invariant_of-pending : goal.invariant_of-pending
+invariant_of-pending g c =
+    let l = c.args.self.now.ledger in
     record {
       known = c.requires.known;
-      within = omega (arith, c.base.ensures, c.requires.within, l.within);
       part = omega (arith, part_of_sum (misses_in l.rows) c.args.reply.«class», c.misses.ensures, l.summed);
-      few = omega (arith, all_few l.rows l.opening l.clock l.table l.within l.charged, l.summed);
+      within = omega (arith, c.base.ensures, c.requires.within, l.within);
     }
 
 pub returns : goal.returns
