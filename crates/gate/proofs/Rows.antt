@@ -1,14 +1,14 @@
 -- A ledger's table: the misses and releases of its rows, one by one and summed.
 use Rattle.std.proofs.Common.{◌≡◌, ℕ, ◌+◌, ◌-◌, ◌*◌, ◌^◌, ◌<◌, ◌≤◌, List, length, get_or, set, sum, sym, ap, ◌∙◌, inl, inr, arith, get_or-set_other, get_or-set_same}
 use lib.ListN.{length-map, get_or-map}
-use lib.Seq.{map-set}
 use Rattle.std.proofs.lemmas.List.Sums.{sum-map, sum_by-set}
 use Rattle.std.proofs.lemmas.Bool.{cases_eq}
 use Rattle.source.specs.Replies.{horizon}
 use Rattle.promise.specs.declared.release.Settled.{Settled}
 use Rattle.gate.specs.declared.row.Row.{Row}
+use Rattle.gate.specs.declared.ledger.Ledger.{Ledger}
 use Rattle.gate.specs.Rows.{no_row, misses_at, misses_in, releases_in}
-use Rattle.promise.proofs.Sums.{sum_few}
+use Rattle.promise.proofs.Sums.{sum_few, part_of_sum}
 use Rattle.promise.proofs.Settling.{few}
 
 pub misses_at_is : (rows : List Row) (c : ℕ) → misses_at rows c ≡ get_or (misses_in rows) c 0
@@ -34,17 +34,18 @@ module _ (rows : List Row) (opening clock : ℕ) (table : length rows ≡ 8) (wi
       = sum_few (misses_in rows) 29 (λ i h. let o = own_few i (omega arith) in omega (arith, o, misses_at_is rows i)) in
       omega arith
 
+-- the same of a ledger: the misses of all classes are few, and those of one are a part of them
+pub all_misses_few : (l : Ledger) → l.all_misses ≤ 232
+all_misses_few l = omega (arith, l.summed, all_few l.rows l.opening l.clock l.table l.within l.charged)
+
+pub own_part : (l : Ledger) (c : ℕ) → get_or (misses_in l.rows) c 0 ≤ l.all_misses
+own_part l c = omega (arith, l.summed, part_of_sum (misses_in l.rows) c)
+
 -- a row charged one release after some misses
 abbrev pub charged_row : List Row → ℕ → Settled → Row
 charged_row rows c s = record { misses = misses_at rows c + s.misses; releases = (get_or rows c no_row).releases + 1 }
 
 module _ (rows : List Row) (c : ℕ) (s : Settled) (row : Row) (is : row ≡ charged_row rows c s) (short : c < length rows) where
-  pub misses_set : misses_in (set rows c row) ≡ set (misses_in rows) c (get_or (misses_in rows) c 0 + s.misses)
-  misses_set =
-      map-set (λ (r : Row). r.misses) rows c row
-      ∙ ap (λ (r : Row). set (misses_in rows) c r.misses) is
-      ∙ ap (λ n. set (misses_in rows) c (n + s.misses)) (misses_at_is rows c)
-
   pub misses_sum : sum (misses_in (set rows c row)) ≡ sum (misses_in rows) + s.misses
   misses_sum =
       let m : row.misses ≡ misses_at rows c + s.misses = ap (λ (r : Row). r.misses) is in

@@ -1,5 +1,5 @@
 -- The prediction loop, turn by turn: what settles from where it stands settles from where it began.
-use Rattle.std.proofs.Common.{◌≡◌, ℕ, suc, ◌+◌, ◌<◌, ◌≤◌, ◌∙◌, subst, add-zero, arith}
+use Rattle.std.proofs.Common.{◌≡◌, ℕ, suc, ◌+◌, ◌<◌, ◌≤◌, subst, add-zero, arith}
 use Rattle.source.specs.Replies.{horizon}
 use Rattle.promise.specs.Rules.{Rules, Laws}
 use Rattle.promise.specs.Predictions.{predict, Settles, Passes}
@@ -23,15 +23,6 @@ module _ (m : Rules) where
     pub risen : p.base + misses ≤ n.base
     pub settles : (k t : ℕ) → SettlesFrom n k t → SettlesFrom p (misses + k) t
     pub passes : (k : ℕ) → PassesFrom n k → PassesFrom p (misses + k)
-
-  pub onward_first : (p : Pending) → Onward p 0 p
-  onward_first p =
-      record {
-        all_is = omega arith;
-        risen = omega arith;
-        settles = λ k t s. subst (λ n. SettlesFrom p n t) (let e : k ≡ 0 + k = omega arith in e) s;
-        passes = λ k s. subst (PassesFrom p) (let e : k ≡ 0 + k = omega arith in e) s;
-      }
 
   module _ (p : Pending) (misses : ℕ) (n : Pending) (on : Onward p misses n) where
     pub onward_past : horizon < next n → (k : ℕ) × PassesFrom p k

@@ -70,7 +70,7 @@ impl<P: Pace, R: Penalty> Predictor<'_, P, R> {
 
     // Predicts until a prediction is not before the ready tick, or passes the horizon.
     pub(crate) fn settle(&self, pending: Pending) -> Option<Settled>
-        requires few { pending.all ≤ 232 }
+        requires { pending.all ≤ 232 }
         ensures { Comes (rules_of P.Pace R.Penalty self.now.pace.now self.now.penalty.now) pending.«class» pending.ready pending.base pending.own pending.all result }
     {
         let mut next = pending;

@@ -15,14 +15,10 @@ use Rattle.tally.specs.Bits.{row_bits, occurs_in}
 use Rattle.tally.specs.Tallies.{begun, taken, counted, tallied, foot_of, row_key, Bounds}
 use Rattle.tally.proofs.Searches.{row_bits_is}
 
--- the rows of a tally, and where it was opened
+-- the rows of a tally
 pub rows_counted : (t : Tally) (rs : List PageRow) → (counted t rs).rows ≡ t.rows + length rs
 rows_counted t [] = omega arith
 rows_counted t (r ∷ rs) = omega (arith, rows_counted (taken t r) rs)
-
-pub opening_counted : (t : Tally) (rs : List PageRow) → (counted t rs).opening ≡ t.opening
-opening_counted t [] = refl
-opening_counted t (r ∷ rs) = opening_counted (taken t r) rs
 
 marks_counted : (t : Tally) (rs : List PageRow) → length t.occurs ≡ 8 → (c : ℕ) → c < 8
     → occurs_in (counted t rs).occurs c ≡ occurs (map row_key rs) c || occurs_in t.occurs c

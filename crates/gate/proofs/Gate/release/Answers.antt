@@ -1,10 +1,10 @@
-use Rattle.std.proofs.Common.{◌≡◌, ℕ, suc, Ok, Err, sum, refl, ap, ◌∙◌, arith}
+use Rattle.std.proofs.Common.{◌≡◌, suc, Ok, sum, ap, ◌∙◌, arith}
 use Rattle.gate.specs.declared.Gate.{Gate}
 use Rattle.promise.specs.declared.release.Release.{Release}
-use Rattle.promise.specs.Views.{View, charged, release, reply_of}
+use Rattle.promise.specs.Views.{release, reply_of}
 use Rattle.gate.specs.Rows.{releases_in}
-use Rattle.gate.specs.Gates.{view_of, rules_in, standing_of}
-use Rattle.gate.proofs.Leaving.{Leaves, leaves, settled_of, next_after, timely}
+use Rattle.gate.specs.Gates.{view_of, rules_in}
+use Rattle.gate.proofs.Leaving.{Leaves, leaves, next_after, timely}
 use Rattle.gate.proofs.Gate.release.Given as given
 use Rattle.gate.proofs.Gate.release.Goals as goal
 

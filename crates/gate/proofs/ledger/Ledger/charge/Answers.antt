@@ -1,14 +1,14 @@
-use Rattle.std.proofs.Common.{◌≡◌, ◌+◌, ◌<◌, ◌≤◌, length, ◌∙◌, arith, length-set}
+use Rattle.std.proofs.Common.{◌+◌, ◌<◌, ◌≤◌, length, ◌∙◌, arith, length-set}
 use Rattle.promise.proofs.Sums.{part_of_sum}
 use Rattle.gate.specs.Rows.{misses_at, releases_in}
-use Rattle.gate.proofs.Rows.{releases_at, few_between, all_few, misses_sum, releases_sum, charged_set}
+use Rattle.gate.proofs.Rows.{releases_at, few_between, all_misses_few, misses_sum, releases_sum, charged_set}
 use Rattle.gate.proofs.ledger.Ledger.charge.Goals as goal
 
 pub overflow_add-self : goal.overflow_add-self
 overflow_add-self c =
     let l = c.args.self.now in
     let n : misses_at l.rows c.args.«class» + c.args.settled.misses ≤ 29 = few_between _ l.opening _ c.requires.few c.requires.within in
-    omega (arith, n, l.summed, all_few l.rows l.opening l.clock l.table l.within l.charged)
+    omega (arith, n, all_misses_few l)
 
 pub charge-requires : goal.charge-requires
 charge-requires c =
