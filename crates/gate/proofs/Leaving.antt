@@ -1,55 +1,41 @@
 -- What a release leaves of the ledger at hand.
-use Rattle.std.proofs.Common.{◌≡◌, ℕ, suc, ◌+◌, ◌-◌, ◌^◌, ◌<◌, ◌≤◌, List, [], ◌∷◌, length, get_or, Some, None, Ok, Option, sym, refl, ap, subst, arith}
+use Rattle.std.proofs.Common.{◌≡◌, ℕ, suc, ◌+◌, ◌-◌, ◌^◌, ◌≤◌, List, [], ◌∷◌, Some, None, Ok, Option, sym, refl, ap, subst, arith}
 use Rattle.source.specs.declared.reply.Reply.{Reply}
 use Rattle.source.specs.declared.reply.End.{End}
-use Rattle.source.specs.Replies.{horizon, Lawful, rest}
+use Rattle.source.specs.Replies.{Lawful, rest}
 use Rattle.promise.specs.declared.release.Release.{Release}
 use Rattle.promise.specs.declared.release.Settled.{Settled}
 use Rattle.promise.specs.Rules.{Rules, Laws}
 use Rattle.promise.specs.Views.{View, own, all, base, charged, settled, moved, release_by, release_from, release, next_by, next_from, Timely}
 use Rattle.promise.proofs.Sums.{part_of_sum}
-use Rattle.promise.proofs.Settling.{Risen, risen, few}
+use Rattle.promise.proofs.Settling.{Risen, risen}
 use Rattle.promise.proofs.Standings.{settled_settles}
 use Rattle.gate.specs.declared.ledger.Ledger.{Ledger}
-use Rattle.gate.specs.Rows.{no_row, misses_at, misses_in, releases_in}
+use Rattle.gate.specs.Rows.{misses_at, misses_in}
 use Rattle.gate.specs.Gates.{standing_of}
-use Rattle.gate.proofs.Rows.{misses_at_is, releases_at, all_few}
+use Rattle.gate.proofs.Rows.{misses_at_is, few_between}
 
 module _ {B : Type 0} where
   -- what a release was settled to
   abbrev pub settled_of : Release B → Settled
   settled_of x = record { tick = x.reply.ready; misses = x.misses }
 
-  -- a release, and what it leaves of the ledger
+  -- a release, and what the ledger is charged by it
   pub record Leaves (l : Ledger) (x : Release B) : Type 0 where
-    pub short : x.reply.«class» < length l.rows
-    pub known : x.reply.«class» < 8
+    pub known : x.reply.«class» ≤ 7
     pub up : Risen (base (standing_of l) x.reply.asked) (misses_at l.rows x.reply.«class») (settled_of x)
-    pub few_misses : misses_at l.rows x.reply.«class» + x.misses ≤ 29
-    pub few_releases : (get_or l.rows x.reply.«class» no_row).releases ≤ horizon
-    pub few_all : l.all_misses + x.misses ≤ 261
+    pub slow : 2 ^ (misses_at l.rows x.reply.«class» + x.misses) - 1 ≤ x.reply.ready - l.opening
 
   leaves_settled : (m : Rules) → Laws m → (l : Ledger) (r : Reply B) (s : Settled) → r.«class» ≤ 7 → Some s ≡ settled m (standing_of l) r
       → Leaves l (record { reply = moved r s.tick; misses = s.misses })
   leaves_settled m laws l r s hc e =
       let c : ℕ = r.«class» in
-      let part = part_of_sum (misses_in l.rows) c in
-      let count = part_of_sum (releases_in l.rows) c in
+      let from = base (standing_of l) r.asked in
       let st = settled_settles m (standing_of l) r s e in
-      let up₀ = risen m laws c hc r.ready (base (standing_of l) r.asked) (own (standing_of l) c) (all (standing_of l)) s part st in
-      let up : Risen (base (standing_of l) r.asked) (misses_at l.rows c) s
-      = subst (λ n. Risen (base (standing_of l) r.asked) n s) (sym (misses_at_is l.rows c)) up₀ in
-      let old : 2 ^ misses_at l.rows c - 1 ≤ l.clock - l.opening = l.charged c (omega arith) in
-      let n : misses_at l.rows c + s.misses ≤ 29
-      = few (misses_at l.rows c + s.misses) s.tick (omega (arith, up.doubled, up.rises, old, l.after)) up.within in
-      record {
-        short = omega (arith, l.table);
-        known = omega arith;
-        up = up;
-        few_misses = n;
-        few_releases = omega (arith, count, releases_at l.rows c, l.counted, l.within);
-        few_all = omega (arith, n, l.summed, all_few l.rows l.opening l.clock l.table l.within l.charged);
-      }
+      let up : Risen from (misses_at l.rows c) s
+      = subst (λ n. Risen from n s) (sym (misses_at_is l.rows c))
+      (risen m laws c hc r.ready from (own (standing_of l) c) (all (standing_of l)) s (part_of_sum (misses_in l.rows) c) st) in
+      record { known = hc; up = up; slow = omega (arith, up.doubled, up.rises, l.charged c (omega arith), l.after) }
 
   leaves_by : (m : Rules) → Laws m → (l : Ledger) (r : Reply B) → r.«class» ≤ 7 → (o : Option Settled) → o ≡ settled m (standing_of l) r
       → (x : Release B) → Ok x ≡ release_by o r → Leaves l x
@@ -65,12 +51,14 @@ module _ {B : Type 0} where
 
   pub timely : (l : Ledger) (x : Release B) → Leaves l x → Timely l.clock x
   timely l x k =
+      let n : misses_at l.rows x.reply.«class» + x.misses ≤ 29
+      = few_between _ l.opening x.reply.ready k.slow k.up.within in
       record {
         asked = omega (arith, k.up.rises);
         after = omega (arith, k.up.rises);
         within = k.up.within;
-        known = omega (arith, k.known);
-        few = omega (arith, k.few_misses);
+        known = k.known;
+        few = omega (arith, n);
       }
 
   -- the view after a release

@@ -1,8 +1,10 @@
 // The ledger of a gate: when it was opened, its clock, and what each class was charged.
-ghost use Rattle.std.specs.Prelude.{◌≡◌, ℕ, ◌-◌, ◌^◌, ◌<◌, ◌≤◌, length, sum, slice_index};
+ghost use Rattle.std.specs.Prelude.{◌≡◌, ℕ, ◌+◌, ◌-◌, ◌^◌, ◌<◌, ◌≤◌, length, sum, slice_index};
 ghost use Rattle.gate.specs.Rows.{misses_at, misses_in, releases_in};
 
+use super::opening::Opening;
 use super::row::Row;
+use promise::release::Settled;
 
 // All misses are kept beside the table, so that no reply has to add them up again.
 #[derive(Clone, Copy)]
@@ -20,6 +22,37 @@ pub struct Ledger {
 }
 
 impl Ledger {
+    ghost use Rattle.promise.specs.Views.{charged, fresh};
+    ghost use Rattle.gate.specs.Gates.{standing_of};
+
+    // The ledger of a gate that is opened at a tick.
+    pub(crate) fn new(opening: Opening) -> Ledger
+        ensures value { standing_of result ≡ fresh opening.value }
+        ensures releases { sum (releases_in result.rows) ≡ 0 }
+    {
+        let tick = opening.value();
+        Ledger {
+            opening: tick,
+            clock: tick,
+            all_misses: 0,
+            rows: [Row::default(); 8],
+        }
+    }
+
+    // Charges a class the misses of a reply, counts its release, and moves the clock to its release tick.
+    pub(crate) fn charge(&mut self, class: u8, settled: Settled)
+        requires known { «class» ≤ 7 }
+        requires after { self.old.clock < settled.tick }
+        requires within { settled.tick ≤ 1000000000 }
+        requires few { 2 ^ (misses_at self.old.rows «class» + settled.misses) - 1 ≤ settled.tick - self.old.opening }
+        ensures after { standing_of self.new ≡ charged (standing_of self.old) «class» settled }
+        ensures releases { sum (releases_in self.new.rows) ≡ sum (releases_in self.old.rows) + 1 }
+    {
+        self.clock = settled.tick;
+        self.all_misses += settled.misses;
+        self.rows[class as usize].charge(settled.misses);
+    }
+
     // The misses of a class.
     pub(crate) fn misses(&self, class: u8) -> u32
         requires { «class» ≤ 7 }
@@ -32,10 +65,6 @@ impl Ledger {
     pub(crate) fn released(&self) -> u32
         ensures { result ≡ sum (releases_in self.now.rows) }
     {
-        let mut count = 0;
-        for row in self.rows {
-            count += row.releases;
-        }
-        count
+        self.rows.iter().map(|row| row.releases).sum()
     }
 }

@@ -4,20 +4,18 @@
 ghost use Rattle.std.specs.Prelude.{◌≡◌, ◌≤◌, IfOk, Err};
 ghost use Rattle.source.specs.declared.reply.End.{End};
 ghost use Rattle.promise.specs.Rules.{rules_of};
-ghost use Rattle.promise.specs.Views.{opened, settled, base, moved, released, ending, release, reply_of, Timely};
+ghost use Rattle.promise.specs.Views.{opened, settled, base, released, ending, release, reply_of, Timely};
 ghost use Rattle.promise.specs.declared.event.Event.TheVariants as event;
-ghost use Rattle.promise.specs.Runs.{Call};
 ghost use Rattle.promise.specs.Promise.{Promise};
 ghost use Rattle.promise.proofs.Releases.{released_lawful};
-ghost use Rattle.gate.specs.Gates.{view_of, rules_in, standing_of};
+ghost use Rattle.gate.specs.Gates.{view_of, rules_in, standing_of, GateCall};
 
 use ledger::Ledger;
 use opening::Opening;
 use pace::fault::UnknownClass;
 use pace::{Pace, Penalty};
-use predict::{Pending, settle};
+use predict::{Pending, Predictor};
 use promise::release::{Release, Settled};
-use row::Row;
 use source::Source;
 use source::reply::{End, LAST_CLASS, Reply};
 
@@ -35,18 +33,6 @@ pub struct Gate<S, P, R> {
     ledger: Ledger,
 }
 
-// The reply, ready at its release tick.
-fn moved<B: Copy>(reply: Reply<B>, tick: u32) -> Reply<B>
-    ensures { result ≡ moved reply tick }
-{
-    Reply {
-        asked: reply.asked,
-        class: reply.class,
-        ready: tick,
-        body: reply.body,
-    }
-}
-
 impl<S: Source, P: Pace, R: Penalty> Gate<S, P, R> {
     // A gate over the source that is opened at a tick.
     pub fn open(source: S, pace: P, penalty: R, opening: Opening) -> Gate<S, P, R>
@@ -56,22 +42,11 @@ impl<S: Source, P: Pace, R: Penalty> Gate<S, P, R> {
         ensures penalty { result.penalty ≡ penalty }
         ensures promise { Promise (rules_of P.Pace R.Penalty pace penalty) (S.Source.coming source) (S.Source.mark source) opening.value }
     {
-        let tick = opening.value();
-        let rows = [Row {
-            misses: 0,
-            releases: 0,
-        }; 8];
-        let ledger = Ledger {
-            opening: tick,
-            clock: tick,
-            all_misses: 0,
-            rows,
-        };
         Gate {
             source,
             pace,
             penalty,
-            ledger,
+            ledger: Ledger::new(opening),
         }
     }
 
@@ -102,7 +77,11 @@ impl<S: Source, P: Pace, R: Penalty> Gate<S, P, R> {
             all: self.ledger.all_misses,
             base: self.base(reply.asked),
         };
-        settle(&self.pace, &self.penalty, pending)
+        let predictor = Predictor {
+            pace: &self.pace,
+            penalty: &self.penalty,
+        };
+        predictor.settle(pending)
     }
 
     // The next reply as it will be released, with its misses.
@@ -110,34 +89,33 @@ impl<S: Source, P: Pace, R: Penalty> Gate<S, P, R> {
         ensures { result ≡ release (rules_in P.Pace R.Penalty self.now) (view_of S.Source self.now) }
     {
         let reply = self.source.head()?;
-        let Some(settled) = self.settle(reply) else {
-            return Err(End::Horizon);
-        };
+        let settled = self.settle(reply).ok_or(End::Horizon)?;
         Ok(Release {
-            reply: moved(reply, settled.tick),
+            reply: Reply {
+                ready: settled.tick,
+                ..reply
+            },
             misses: settled.misses,
         })
     }
 
     // The next reply as it will be released. Charges nothing.
     pub fn head(&self) -> Result<Reply<S::Body>, End>
-        ensures call { Call (rules_in P.Pace R.Penalty self.now) (view_of S.Source self.now) (event.Head result) (view_of S.Source self.now) }
+        ensures call { GateCall S.Source P.Pace R.Penalty self.now (event.Head result) self.now }
     {
-        let next = self.upcoming()?;
-        Ok(next.reply)
+        self.upcoming().map(|next| next.reply)
     }
 
     // The misses that the next reply will have. Charges nothing.
     pub fn lapses(&self) -> Result<u32, End>
-        ensures call { Call (rules_in P.Pace R.Penalty self.now) (view_of S.Source self.now) (event.Lapses result) (view_of S.Source self.now) }
+        ensures call { GateCall S.Source P.Pace R.Penalty self.now (event.Lapses result) self.now }
     {
-        let next = self.upcoming()?;
-        Ok(next.misses)
+        self.upcoming().map(|next| next.misses)
     }
 
     // The misses that a class was charged.
     pub fn misses(&self, class: u8) -> Result<u32, UnknownClass>
-        ensures call { Call (rules_in P.Pace R.Penalty self.now) (view_of S.Source self.now) (event.Misses «class» result) (view_of S.Source self.now) }
+        ensures call { GateCall S.Source P.Pace R.Penalty self.now (event.Misses «class» result) self.now }
     {
         if class > LAST_CLASS {
             return Err(UnknownClass);
@@ -147,7 +125,7 @@ impl<S: Source, P: Pace, R: Penalty> Gate<S, P, R> {
 
     // The last release tick, or else the opening.
     pub fn clock(&self) -> u32
-        ensures call { Call (rules_in P.Pace R.Penalty self.now) (view_of S.Source self.now) (event.Clock result) (view_of S.Source self.now) }
+        ensures call { GateCall S.Source P.Pace R.Penalty self.now (event.Clock result) self.now }
         ensures within { result ≤ 1000000000 }
     {
         self.ledger.clock
@@ -155,7 +133,7 @@ impl<S: Source, P: Pace, R: Penalty> Gate<S, P, R> {
 
     // How many replies were taken.
     pub fn released(&self) -> u32
-        ensures call { Call (rules_in P.Pace R.Penalty self.now) (view_of S.Source self.now) (event.Released result) (view_of S.Source self.now) }
+        ensures call { GateCall S.Source P.Pace R.Penalty self.now (event.Released result) self.now }
     {
         self.ledger.released()
     }
@@ -164,33 +142,28 @@ impl<S: Source, P: Pace, R: Penalty> Gate<S, P, R> {
     // Refused, it leaves the whole gate as it was.
     pub fn release(&mut self) -> Result<Release<S::Body>, End>
         ensures value { result ≡ release (rules_in P.Pace R.Penalty self.old) (view_of S.Source self.old) }
-        ensures call { Call (rules_in P.Pace R.Penalty self.old) (view_of S.Source self.old) (event.Take (reply_of result)) (view_of S.Source self.new) }
+        ensures call { GateCall S.Source P.Pace R.Penalty self.old (event.Take (reply_of result)) self.new }
         ensures same { rules_in P.Pace R.Penalty self.new ≡ rules_in P.Pace R.Penalty self.old }
         ensures refused { (e : End) → result ≡ Err e → self.new ≡ self.old }
         ensures timely { IfOk result (Timely (view_of S.Source self.old).standing.clock) }
     {
         let next = self.upcoming()?;
         let _ = self.source.take();
-        let mut rows = self.ledger.rows;
-        rows[next.reply.class as usize].charge(next.misses);
-        let all_misses = self.ledger.all_misses + next.misses;
-        self.ledger = Ledger {
-            opening: self.ledger.opening,
-            clock: next.reply.ready,
-            all_misses,
-            rows,
+        let settled = Settled {
+            tick: next.reply.ready,
+            misses: next.misses,
         };
+        self.ledger.charge(next.reply.class, settled);
         Ok(next)
     }
 
     // Lets the next reply go, as `release` does, and answers the reply alone.
     pub fn take(&mut self) -> Result<Reply<S::Body>, End>
-        ensures call { Call (rules_in P.Pace R.Penalty self.old) (view_of S.Source self.old) (event.Take result) (view_of S.Source self.new) }
+        ensures call { GateCall S.Source P.Pace R.Penalty self.old (event.Take result) self.new }
         ensures same { rules_in P.Pace R.Penalty self.new ≡ rules_in P.Pace R.Penalty self.old }
         ensures refused { (e : End) → result ≡ Err e → self.new ≡ self.old }
     {
-        let released = self.release()?;
-        Ok(released.reply)
+        self.release().map(|released| released.reply)
     }
 }
 

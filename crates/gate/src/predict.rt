@@ -16,6 +16,9 @@ pub struct Pending {
     pub(crate) own: u32,
     pub(crate) all: u32,
     pub(crate) base: u32,
+    ghost known: { «class» ≤ 7 },
+    ghost part: { own ≤ all },
+    ghost within: { base ≤ 1000000000 },
 }
 
 impl Pending {
@@ -29,8 +32,9 @@ impl Pending {
     // After a prediction was missed: one miss more, and that prediction is the new base.
     fn missed(&self, tick: u32) -> Pending
         requires few { self.now.all + 1 < 2 ^ 32 }
-        requires part { self.now.own ≤ self.now.all }
-        ensures { result ≡ record { «class» = self.now.«class»; ready = self.now.ready; own = self.now.own + 1; all = self.now.all + 1; base = tick } }
+        requires within { tick ≤ 1000000000 }
+        ensures same { (result.«class» ≡ self.now.«class») × (result.ready ≡ self.now.ready) }
+        ensures after { (result.own ≡ self.now.own + 1) × (result.all ≡ self.now.all + 1) × (result.base ≡ tick) }
     {
         Pending {
             class: self.class,
@@ -42,45 +46,42 @@ impl Pending {
     }
 }
 
-// One prediction: the base and the wait that the misses call for, or nothing where that passes the horizon.
-fn prediction<P: Pace, R: Penalty>(pace: &P, penalty: &R, pending: Pending) -> Option<u32>
-    requires known { pending.«class» ≤ 7 }
-    requires within { pending.base ≤ 1000000000 }
-    ensures { Predicted (predict (rules_of P.Pace R.Penalty pace.now penalty.now) pending.«class» pending.base pending.own pending.all) result }
-{
-    let epoch = penalty.epoch(pending.own, pending.all);
-    let Ok(wait) = pace.wait(pending.class, epoch) else {
-        unreachable()
-    };
-    if wait > HORIZON - pending.base {
-        None
-    } else {
-        Some(pending.base + wait)
-    }
+// The pace and the penalty rule that predictions are made by.
+#[derive(Drop)]
+pub struct Predictor<'a, P, R> {
+    pub(crate) pace: &'a P,
+    pub(crate) penalty: &'a R,
 }
 
-// Predicts until a prediction is not before the ready tick, or passes the horizon.
-pub(crate) fn settle<P: Pace, R: Penalty>(
-    pace: &P,
-    penalty: &R,
-    pending: Pending,
-) -> Option<Settled>
-    requires known { pending.«class» ≤ 7 }
-    requires within { pending.base ≤ 1000000000 }
-    requires part { pending.own ≤ pending.all }
-    requires few { pending.all ≤ 232 }
-    ensures { Comes (rules_of P.Pace R.Penalty pace.now penalty.now) pending.«class» pending.ready pending.base pending.own pending.all result }
-{
-    let mut next = pending;
-    let mut misses = 0;
-    loop {
-        let Some(tick) = prediction(pace, penalty, next) else {
-            return None;
+impl<P: Pace, R: Penalty> Predictor<'_, P, R> {
+    // One prediction: the base and the wait that the misses call for, or nothing where that passes the horizon.
+    fn prediction(&self, pending: Pending) -> Option<u32>
+        ensures { Predicted (predict (rules_of P.Pace R.Penalty self.now.pace.now self.now.penalty.now) pending.«class» pending.base pending.own pending.all) result }
+    {
+        let epoch = self.penalty.epoch(pending.own, pending.all);
+        let Ok(wait) = self.pace.wait(pending.class, epoch) else {
+            unreachable()
         };
-        if next.ready_by(tick) {
-            return Some(Settled { tick, misses });
+        pending
+            .base
+            .checked_add(wait)
+            .filter(|tick| *tick <= HORIZON)
+    }
+
+    // Predicts until a prediction is not before the ready tick, or passes the horizon.
+    pub(crate) fn settle(&self, pending: Pending) -> Option<Settled>
+        requires { pending.all ≤ 232 }
+        ensures { Comes (rules_of P.Pace R.Penalty self.now.pace.now self.now.penalty.now) pending.«class» pending.ready pending.base pending.own pending.all result }
+    {
+        let mut next = pending;
+        let mut misses = 0;
+        loop {
+            let tick = self.prediction(next)?;
+            if next.ready_by(tick) {
+                return Some(Settled { tick, misses });
+            }
+            misses += 1;
+            next = next.missed(tick);
         }
-        misses += 1;
-        next = next.missed(tick);
     }
 }

@@ -1,7 +1,7 @@
 // One class's row of the ledger.
 ghost use Rattle.std.specs.Prelude.{◌≡◌, ◌+◌, ◌^◌, ◌<◌};
 
-#[derive(Clone, Copy)]
+#[derive(Clone, Copy, Default)]
 pub struct Row {
     pub(crate) misses: u32,
     pub(crate) releases: u32,

@@ -2,7 +2,8 @@
 use Rattle.std.proofs.Common.{◌≡◌, ℕ, zero, suc, ◌+◌, ◌-◌, ◌*◌, ◌^◌, ◌<◌, ◌≤◌, Bool, true, false, ◌||◌, eqb, List, [], ◌∷◌, map, length, get_or, set, sym, refl, ap, ◌∙◌, subst, inl, inr, pow-suc, mul-zero, mul-suc, arith, pow-add}
 use native.Mathlib.Nat.{pow-zero, pow-le-pow_left}
 use Rattle.std.proofs.lemmas.Bool.{cases_eq, eq-eqb, ne_eqb}
-use Rattle.std.proofs.lemmas.List.{length-set, get_or-set_same, get_or-set_other, length-map}
+use Rattle.std.proofs.lemmas.List.{length-set, get_or-set_same, get_or-set_other, get_or-replicate, length-map}
+use Rattle.std.proofs.Math.Bool.{or-false}
 use Rattle.source.specs.Replies.{horizon}
 use Rattle.promise.specs.Leaks.{Most, most_of, share, over}
 use Rattle.promise.specs.Promise.{Key, occurs}
@@ -14,14 +15,10 @@ use Rattle.tally.specs.Bits.{row_bits, occurs_in}
 use Rattle.tally.specs.Tallies.{begun, taken, counted, tallied, foot_of, row_key, Bounds}
 use Rattle.tally.proofs.Searches.{row_bits_is}
 
--- the rows of a tally, and where it was opened
+-- the rows of a tally
 pub rows_counted : (t : Tally) (rs : List PageRow) → (counted t rs).rows ≡ t.rows + length rs
 rows_counted t [] = omega arith
 rows_counted t (r ∷ rs) = omega (arith, rows_counted (taken t r) rs)
-
-pub opening_counted : (t : Tally) (rs : List PageRow) → (counted t rs).opening ≡ t.opening
-opening_counted t [] = refl
-opening_counted t (r ∷ rs) = opening_counted (taken t r) rs
 
 marks_counted : (t : Tally) (rs : List PageRow) → length t.occurs ≡ 8 → (c : ℕ) → c < 8
     → occurs_in (counted t rs).occurs c ≡ occurs (map row_key rs) c || occurs_in t.occurs c
@@ -47,16 +44,8 @@ marks_counted t (r ∷ rs) size c hc =
 -- a class is marked where it occurs
 marks_tallied : (o : ℕ) (rs : List PageRow) (c : ℕ) → c < 8 → occurs_in (tallied o rs).occurs c ≡ occurs (map row_key rs) c
 marks_tallied o rs c hc =
-    marks_counted (begun o) rs refl c hc ∙ ap (λ b. occurs (map row_key rs) c || b) (none 8 c) ∙ or_none (occurs (map row_key rs) c)
-  where
-    none : (n i : ℕ) → occurs_in (lib.ListN.replicate n false) i ≡ false
-    none zero i = refl
-    none (suc n) zero = refl
-    none (suc n) (suc i) = none n i
-
-    or_none : (b : Bool) → (b || false) ≡ b
-    or_none true = refl
-    or_none false = refl
+    marks_counted (begun o) rs refl c hc ∙ ap (λ b. occurs (map row_key rs) c || b) (get_or-replicate 8 c false false hc)
+    ∙ or-false (occurs (map row_key rs) c)
 
 -- a sum over the classes that occur asks no more than which of them do
 over_same : (n : ℕ) (f g : ℕ → ℕ) (a b : ℕ → Bool) → ((c : ℕ) → c < n → f c ≡ g c) → ((c : ℕ) → c < n → a c ≡ b c) → over n f a ≡ over n g b

@@ -1,4 +1,3 @@
 pub mod Searches
 pub mod Bounding
-pub mod Feet
 pub mod Judging

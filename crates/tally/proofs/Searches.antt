@@ -1,9 +1,9 @@
 -- The most misses, and the least number of bits, by the power of two that they stand for.
-use Rattle.std.proofs.Common.{◌≡◌, ℕ, zero, suc, ◌+◌, ◌-◌, ◌*◌, ◌^◌, ◌/◌, ◌<◌, ◌≤◌, Bool, leb, sym, ap, ◌∙◌, subst, inl, inr, add-zero, mul-le-mul_left, arith, pow_mono}
+use Rattle.std.proofs.Common.{◌≡◌, ℕ, zero, suc, ◌+◌, ◌-◌, ◌*◌, ◌^◌, ◌/◌, ◌<◌, ◌≤◌, leb, subst, inl, inr, add-zero, mul-le-mul_left, arith, pow_mono}
 use Rattle.std.proofs.Math.Nat.{mul-div-le, lt-mul-div-succ}
 use native.Mathlib.Nat.{two-pow-succ}
 use Rattle.std.proofs.lemmas.Bool.{cases_lt, cases_Bool, leb-true, leb-false}
-use Rattle.promise.specs.Leaks.{Most, share, over}
+use Rattle.promise.specs.Leaks.{Most}
 use Rattle.promise.proofs.Mosts.{most_last}
 use Rattle.tally.specs.Bits.{Enough, bits_from, row_bits}
 

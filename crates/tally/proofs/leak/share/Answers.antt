@@ -1,22 +1,18 @@
-use Rattle.std.proofs.Common.{◌≡◌, ℕ, sym, ap, ◌∙◌, arith}
-use Rattle.promise.specs.Leaks.{most_of, share}
+use Rattle.std.proofs.Common.{◌≡◌, ℕ, ◌≤◌, sym, ap, ◌∙◌, subst}
+use Rattle.promise.specs.Leaks.{Most, most_of, share}
 use Rattle.promise.proofs.Mosts.{most_is}
 use Rattle.pace.proofs.Answering.{known_class}
 use Rattle.tally.proofs.leak.share.Goals as goal
 
-pub most_misses-requires : goal.most_misses-requires
-most_misses-requires g c =
+pub most_misses-requires-clause-some : goal.most_misses-requires-clause-some
+most_misses-requires-clause-some g c =
     let q = known_class c.args.«class» _ _ c.requires.known c.in-Ok.ensures in
-    record { some = omega (arith, q, (g.met.P.Pace.lawful c.args.quanta.now).quantum_low c.args.«class» c.requires.known); within = c.requires.within }
+    subst (λ n. 1 ≤ n) (sym q) ((g.met.P.Pace.lawful c.args.quanta.now).quantum_low c.args.«class» c.requires.known)
 
-pub returns : goal.returns
-returns g c =
+pub returns-clause-value : goal.returns-clause-value
+returns-clause-value g c =
     let n : ℕ = g.P.Pace.quanta c.args.quanta.now c.args.«class» in
     let q : c.in-Ok.quantum ≡ n = known_class c.args.«class» _ _ c.requires.known c.in-Ok.ensures in
-    let most : c.most_misses.result ≡ most_of c.in-Ok.quantum c.args.span
-    = most_is c.in-Ok.quantum c.args.span c.most_misses.result
-    (omega (arith, q, (g.met.P.Pace.lawful c.args.quanta.now).quantum_low c.args.«class» c.requires.known)) c.requires.within c.most_misses.ensures.most in
-    record {
-      value = most ∙ ap (λ k. most_of k c.args.span) q ∙ sym (ap (share (most_of n c.args.span)) c.if-not-occurs.false);
-      few = c.most_misses.ensures.few;
-    }
+    let most : Most n c.args.span c.most_misses.result = subst (λ k. Most k c.args.span c.most_misses.result) q c.most_misses.ensures.most in
+    most_is n c.args.span c.most_misses.result ((g.met.P.Pace.lawful c.args.quanta.now).quantum_low c.args.«class» c.requires.known) c.requires.within most
+    ∙ sym (ap (share (most_of n c.args.span)) c.if-not-occurs.false)
