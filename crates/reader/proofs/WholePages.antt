@@ -6,7 +6,7 @@ use Rattle.rows.specs.declared.fault.Numbered.{Numbered}
 use Rattle.rows.specs.declared.fault.RowFault.{RowFault}
 use Rattle.text.specs.declared.fault.FileFault.{FileFault}
 use Rattle.std.specs.Borrow.{MutBor}
-use Rattle.text.specs.Files.{Reading, ending, read_rows, fill, Holds}
+use Rattle.text.specs.Files.{Reading, ending, read_rows, Filled, fill, Holds}
 use Rattle.text.specs.Lists.{over}
 use Rattle.text.proofs.Buffers.{buffer_read}
 use Rattle.text.proofs.FileLaws.{file_back, file_only, length_file, file_stops}
@@ -100,21 +100,25 @@ pub record PageRead (opening : ℕ) (bytes : List ℕ) (n : ℕ) (old : List Pag
   pub rows : t.rows ≡ length (reading opening bytes n).left
   pub tally : t ≡ tallied opening (reading opening bytes n).left
 
-pub page_read_is : (opening : ℕ) (bytes lines : List ℕ) (n : ℕ) (old : List PageRow) (name : ℕ) (r : Result ℕ FileFault) (out : MutBor (List PageRow)) (t : Tally)
-    → lines ≡ take (36 * n) bytes
-    → Rattle.text.specs.Files.RowsRead (fill row_after) 36 n lines (record { kept = (name, opening); front = []; rest = old }) (λ s. Holds s s.kept.0 out t.rows × (t ≡ tallied s.kept.1 s.front)) r
-    → PageRead opening bytes n old name r out t
-page_read_is opening bytes lines n old name r out t front read =
-    let b = buffer_read (name, opening) row_after (page_step opening) (page_takes name opening) (page_refuses name opening) 36 old n lines (λ (p : ℕ × ℕ). p.0) r out t.rows
+-- `began` is the buffer, and `b` the tally, as the reading begins
+pub page_read_is : (opening : ℕ) (bytes lines : List ℕ) (n : ℕ) (old : List PageRow) (began : MutBor (List PageRow)) (b : Tally) (r : Result ℕ FileFault) (out : MutBor (List PageRow)) (t : Tally)
+    → lines ≡ take (36 * n) bytes → began.now ≡ old → b ≡ begun opening
+    → ((s : Filled (ℕ × ℕ) PageRow) → Holds s s.kept.0 began b.rows × (b ≡ tallied s.kept.1 s.front)
+        → Rattle.text.specs.Files.RowsRead (fill row_after) 36 n lines s (λ s. Holds s s.kept.0 out t.rows × (t ≡ tallied s.kept.1 s.front)) r)
+    → PageRead opening bytes n old began.ghost_name r out t
+page_read_is opening bytes lines n old began b r out t front all none reads =
+    let name : ℕ = began.ghost_name in
+    let read = reads (record { kept = (name, opening); front = []; rest = old }) ((all, refl, ap (λ (x : Tally). x.rows) none), none) in
+    let f = buffer_read (name, opening) row_after (page_step opening) (page_takes name opening) (page_refuses name opening) 36 old n lines (λ (p : ℕ × ℕ). p.0) r out t.rows
     (λ s. t ≡ tallied s.kept.1 s.front) read in
     let is : read_rows (page_step opening) 36 n lines 1 [] ≡ reading opening bytes n
     = ap (λ x. read_rows (page_step opening) 36 n x 1 []) front ∙ read_front (page_step opening) 36 n bytes 1 [] in
     record {
-      value = b.value ∙ ap (λ (x : Reading (List PageRow)). ending n x.fault) is;
-      after = b.after ∙ ap (λ (x : Reading (List PageRow)). over x.left old) is;
-      same = b.same;
-      rows = b.many ∙ ap (λ (x : Reading (List PageRow)). length x.left) is;
-      tally = b.left ∙ ap (λ (x : Reading (List PageRow)). tallied opening x.left) is;
+      value = f.value ∙ ap (λ (x : Reading (List PageRow)). ending n x.fault) is;
+      after = f.after ∙ ap (λ (x : Reading (List PageRow)). over x.left old) is;
+      same = f.same;
+      rows = f.many ∙ ap (λ (x : Reading (List PageRow)). length x.left) is;
+      tally = f.left ∙ ap (λ (x : Reading (List PageRow)). tallied opening x.left) is;
     }
 
 -- all rows were read

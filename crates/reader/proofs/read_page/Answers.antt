@@ -42,9 +42,8 @@ returns-in_err-read_rows g c =
     let count = c.in_ok-rows.ensures.value in
     let page = c.new-page.ensures in
     let left = c.read_rows.new.taker in
-    let read = page_read_is o bytes _ n c.args.out.now c.new-page.result.out.ghost_name c.read_rows.result left.out left.account.tally c.split_at.ensures.front
-    (c.read_rows.ensures (record { kept = (c.new-page.result.out.ghost_name, o); front = []; rest = c.args.out.now })
-    ((page.value, refl, ap (λ (t : Tally). t.rows) page.begun), page.begun)) in
+    let read = page_read_is o bytes _ n c.args.out.now c.new-page.result.out c.new-page.result.account.tally c.read_rows.result left.out left.account.tally
+    c.split_at.ensures.front page.value page.begun c.read_rows.ensures in
     let p = err_from_is_err_and c.from_residual-in_err-read_rows.result c.from_residual-in_err-read_rows.ensures.1 in
     let value = p.1 ∙ (ap Err p.2 ∙ stop_answer quanta o bytes n (reading o bytes n).left (reading o bytes n).fault _ (sym c.in_err-read_rows.was ∙ read.value))
     ∙ ap (answer_of quanta o bytes) count in
@@ -66,9 +65,8 @@ returns g c =
     let count = c.in_ok-rows.ensures.value in
     let page = c.new-page.ensures in
     let left = c.read_rows.new.taker in
-    let read = page_read_is o bytes _ n c.args.out.now c.new-page.result.out.ghost_name c.read_rows.result left.out left.account.tally c.split_at.ensures.front
-    (c.read_rows.ensures (record { kept = (c.new-page.result.out.ghost_name, o); front = []; rest = c.args.out.now })
-    ((page.value, refl, ap (λ (t : Tally). t.rows) page.begun), page.begun)) in
+    let read = page_read_is o bytes _ n c.args.out.now c.new-page.result.out c.new-page.result.account.tally c.read_rows.result left.out left.account.tally
+    c.split_at.ensures.front page.value page.begun c.read_rows.ensures in
     let none = none_stopped n _ (reading o bytes n).fault (sym c.in_ok-read_rows.was ∙ read.value) in
     let rs : List PageRow = (reading o bytes n).left in
     let rows = rows_only o n bytes rs (omega (arith, c.in_ok-rows.ensures.within)) (reading_is (reading o bytes n) none) in
