@@ -1,5 +1,5 @@
 -- Whole pages: the rows and the foot.
-use Rattle.std.proofs.Common.{◌≡◌, ℕ, ◌+◌, ◌-◌, ◌*◌, ◌≤◌, List, [], ◌++◌, length, take, drop, Some, None, Ok, Err, Option, Result, sym, refl, ap, ◌∙◌, subst, arith}
+use Rattle.std.proofs.Common.{◌≡◌, ℕ, ◌+◌, ◌*◌, ◌≤◌, List, [], ◌++◌, length, take, drop, Some, None, Ok, Err, Option, Result, sym, refl, ap, ◌∙◌, subst, arith}
 use Rattle.std.specs.List.{flat_map}
 use Rattle.std.proofs.lemmas.List.{take_at, length-take-le, length-map}
 use Rattle.rows.specs.declared.fault.Numbered.{Numbered}
@@ -104,7 +104,7 @@ pub record PageRead (opening : ℕ) (bytes : List ℕ) (n : ℕ) (old : List Pag
 pub page_read_is : (opening : ℕ) (bytes lines : List ℕ) (n : ℕ) (old : List PageRow) (began : MutBor (List PageRow)) (b : Tally) (r : Result ℕ FileFault) (out : MutBor (List PageRow)) (t : Tally)
     → lines ≡ take (36 * n) bytes → began.now ≡ old → b ≡ begun opening
     → ((s : Filled (ℕ × ℕ) PageRow) → Holds s s.kept.0 began b.rows × (b ≡ tallied s.kept.1 s.front)
-        → Rattle.text.specs.Files.RowsRead (fill row_after) 36 n lines s (λ s. Holds s s.kept.0 out t.rows × (t ≡ tallied s.kept.1 s.front)) r)
+    → Rattle.text.specs.Files.RowsRead (fill row_after) 36 n lines s (λ s. Holds s s.kept.0 out t.rows × (t ≡ tallied s.kept.1 s.front)) r)
     → PageRead opening bytes n old began.ghost_name r out t
 page_read_is opening bytes lines n old began b r out t front all none reads =
     let name : ℕ = began.ghost_name in
