@@ -1,6 +1,5 @@
 pub mod Turns
 pub mod PageReading
-pub mod Accounting
 pub mod PageLaws
 pub mod FootLaws
 pub mod WholePages

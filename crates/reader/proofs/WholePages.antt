@@ -1,16 +1,20 @@
 -- Whole pages: the rows and the foot.
-use Rattle.std.proofs.Common.{◌≡◌, ℕ, ◌+◌, ◌-◌, ◌*◌, ◌≤◌, List, [], ◌++◌, length, take, drop, Some, None, Ok, Err, Option, sym, refl, ap, ◌∙◌, subst, arith}
+use Rattle.std.proofs.Common.{◌≡◌, ℕ, ◌+◌, ◌*◌, ◌≤◌, List, [], ◌++◌, length, take, drop, Some, None, Ok, Err, Option, Result, sym, refl, ap, ◌∙◌, subst, arith}
 use Rattle.std.specs.List.{flat_map}
 use Rattle.std.proofs.lemmas.List.{take_at, length-take-le, length-map}
 use Rattle.rows.specs.declared.fault.Numbered.{Numbered}
 use Rattle.rows.specs.declared.fault.RowFault.{RowFault}
 use Rattle.text.specs.declared.fault.FileFault.{FileFault}
-use Rattle.text.specs.Files.{Reading, ending, read_rows}
+use Rattle.std.specs.Borrow.{MutBor}
+use Rattle.text.specs.Files.{Reading, ending, read_rows, Filled, fill, Holds}
 use Rattle.text.specs.Lists.{over}
+use Rattle.text.proofs.Buffers.{buffer_read}
 use Rattle.text.proofs.FileLaws.{file_back, file_only, length_file, file_stops}
 use Rattle.tally.specs.declared.line.PageRow.{PageRow}
+use Rattle.tally.specs.declared.account.Tally.{Tally}
 use Rattle.tally.specs.Tallies.{begun, tallied, foot_of}
-use Rattle.reader.specs.PageFiles.{rows_shown, Fits, page_step, foot_read, foot_ending, rows_ending, reading}
+use Rattle.reader.specs.PageFiles.{rows_shown, Fits, row_after, page_step, foot_read, foot_ending, rows_ending, reading}
+use Rattle.reader.proofs.PageReading.{page_takes, page_refuses}
 use Rattle.reader.proofs.PageLaws.{Line, lines, lines_shown, lines_put, lines_fit, rows_of, numbered, numbered_rows, numbered_fit, read_front}
 
 module _ (opening : ℕ) where
@@ -88,23 +92,36 @@ foot_answer quanta opening bytes n m rs o e k =
     ap (λ i. foot_ending i (foot_read (foot_of quanta (tallied opening rs)) (drop (36 * n) bytes))) k
     ∙ ap (rows_ending quanta opening bytes n rs) (sym e)
 
-front_is : (rs old : List PageRow) (n : ℕ) → length rs ≡ n → take (n - 0) (rs ++ drop (length rs) old) ≡ rs
-front_is rs old n e = let k : n - 0 ≡ n = omega arith in ap (λ i. take i (rs ++ drop (length rs) old)) k ∙ take_at rs (drop (length rs) old) n e
+-- what reading the lines into a buffer leaves, in the words of the whole page
+pub record PageRead (opening : ℕ) (bytes : List ℕ) (n : ℕ) (old : List PageRow) (name : ℕ) (r : Result ℕ FileFault) (out : MutBor (List PageRow)) (t : Tally) : Type 0 where
+  pub value : r ≡ ending n (reading opening bytes n).fault
+  pub after : out.now ≡ over (reading opening bytes n).left old
+  pub same : out.ghost_name ≡ name
+  pub rows : t.rows ≡ length (reading opening bytes n).left
+  pub tally : t ≡ tallied opening (reading opening bytes n).left
 
--- all rows were read: the front of the buffer, as it is lent, is the rows
-pub record RowsTaken (opening : ℕ) (bytes : List ℕ) (n : ℕ) (out : List PageRow) : Type 0 where
-  pub none : (reading opening bytes n).fault ≡ None
-  pub rows : RowsRead opening n bytes (reading opening bytes n).left
-  pub front : take (n - 0) out ≡ (reading opening bytes n).left
+-- `began` is the buffer, and `b` the tally, as the reading begins
+pub page_read_is : (opening : ℕ) (bytes lines : List ℕ) (n : ℕ) (old : List PageRow) (began : MutBor (List PageRow)) (b : Tally) (r : Result ℕ FileFault) (out : MutBor (List PageRow)) (t : Tally)
+    → lines ≡ take (36 * n) bytes → began.now ≡ old → b ≡ begun opening
+    → ((s : Filled (ℕ × ℕ) PageRow) → Holds s s.kept.0 began b.rows × (b ≡ tallied s.kept.1 s.front)
+    → Rattle.text.specs.Files.RowsRead (fill row_after) 36 n lines s (λ s. Holds s s.kept.0 out t.rows × (t ≡ tallied s.kept.1 s.front)) r)
+    → PageRead opening bytes n old began.ghost_name r out t
+page_read_is opening bytes lines n old began b r out t front all none reads =
+    let name : ℕ = began.ghost_name in
+    let read = reads (record { kept = (name, opening); front = []; rest = old }) ((all, refl, ap (λ (x : Tally). x.rows) none), none) in
+    let f = buffer_read (name, opening) row_after (page_step opening) (page_takes name opening) (page_refuses name opening) 36 old n lines (λ (p : ℕ × ℕ). p.0) r out t.rows
+    (λ s. t ≡ tallied s.kept.1 s.front) read in
+    let is : read_rows (page_step opening) 36 n lines 1 [] ≡ reading opening bytes n
+    = ap (λ x. read_rows (page_step opening) 36 n x 1 []) front ∙ read_front (page_step opening) 36 n bytes 1 [] in
+    record {
+      value = f.value ∙ ap (λ (x : Reading (List PageRow)). ending n x.fault) is;
+      after = f.after ∙ ap (λ (x : Reading (List PageRow)). over x.left old) is;
+      same = f.same;
+      rows = f.many ∙ ap (λ (x : Reading (List PageRow)). length x.left) is;
+      tally = f.left ∙ ap (λ (x : Reading (List PageRow)). tallied opening x.left) is;
+    }
 
-pub rows_taken : (opening : ℕ) (bytes : List ℕ) (n : ℕ) (old out : List PageRow) (m : ℕ) → 36 * n ≤ length bytes
-    → Ok m ≡ ending n (reading opening bytes n).fault → out ≡ over (reading opening bytes n).left old → RowsTaken opening bytes n out
-rows_taken opening bytes n old out m long e after =
-    let none : (reading opening bytes n).fault ≡ None = none_stopped (reading opening bytes n).fault m e in
-    let rs : List PageRow = (reading opening bytes n).left in
-    let read : RowsRead opening n bytes rs = rows_only opening n bytes rs long (reading_is (reading opening bytes n) none) in
-    record { none = none; rows = read; front = ap (take (n - 0)) after ∙ front_is rs old n read.count }
-  where
-    none_stopped : (o : Option (Numbered RowFault)) (m : ℕ) → Ok m ≡ ending n o → o ≡ None
-    none_stopped None m h = refl
-    none_stopped (Some f) m h = let z : ◌≡◌ {A = ℕ} 0 1 = cc in absurd (omega arith)
+-- all rows were read
+pub none_stopped : (n m : ℕ) (o : Option (Numbered RowFault)) → Ok m ≡ ending n o → o ≡ None
+none_stopped n m None h = refl
+none_stopped n m (Some f) h = let z : ◌≡◌ {A = ℕ} 0 1 = cc in absurd (omega arith)

@@ -49,6 +49,10 @@ turn_from t (Err f) = Err f
 abbrev pub line_read : Tally → List ℕ → Result PageRow RowFault
 line_read t line = turn_from t (row_read 1 page_row line)
 
+-- the row of a line after rows, on a page read into a buffer of a name, and opened at a tick
+abbrev pub row_after : ℕ × ℕ → List PageRow → List ℕ → Result PageRow RowFault
+row_after page rs line = line_read (tallied page.1 rs) line
+
 abbrev pub onto : List PageRow → Result PageRow RowFault → Result (List PageRow) RowFault
 onto rs (Ok r) = Ok (rs ++ r ∷ [])
 onto rs (Err f) = Err f

@@ -1,14 +1,16 @@
 // Reading a page: its rows into the host's buffer, and its foot held against them.
 #![tactic(auto)]
 
-ghost use Rattle.std.specs.Prelude.{◌≡◌, ℕ, ◌+◌, ◌*◌, ◌≤◌, [], length, IfOk};
-ghost use Rattle.text.specs.Files.{ending};
+ghost use Rattle.std.specs.Prelude.{◌≡◌, ℕ, ◌+◌, ◌*◌, ◌≤◌, length, IfOk};
+ghost use Rattle.text.specs.Files.{Filled, Holds, fill, spare};
+ghost use Rattle.text.specs.Filling.{fill_room};
 ghost use Rattle.text.specs.Lists.{over};
+ghost use Rattle.tally.specs.declared.line.PageRow.{PageRow};
 ghost use Rattle.tally.specs.Tallies.{begun, tallied, foot_of};
 ghost use Rattle.rows.specs.Columns.{foot_row};
 ghost use Rattle.rows.specs.Rows.{row_read};
 ghost use Rattle.reader.specs.PageRuns.{ReadsBack};
-ghost use Rattle.reader.specs.PageFiles.{Fits, line_read, same_foot, foot_from, foot_read, foot_ending, page_count, reading, page_answer, page_read, PageExact};
+ghost use Rattle.reader.specs.PageFiles.{line_read, row_after, same_foot, foot_from, foot_read, foot_ending, page_count, page_answer, page_read, PageExact};
 
 use gate::opening::Opening;
 use pace::Pace;
@@ -18,7 +20,7 @@ use rows::layout::{FOOT, PAGE_ROW};
 use tally::account::Account;
 use tally::line::{Foot, LINE, MOST_ROWS, PageRow};
 use text::fault::FileFault;
-use text::file::count_rows;
+use text::file::{RowTaker, count_rows, read_rows};
 
 // The rows of a page of so many bytes, its foot left out, for a buffer of so many rows.
 fn count_lines(size: usize, room: usize) -> Result<usize, FileFault>
@@ -85,63 +87,55 @@ fn read_foot(line: &[u8], foot: Foot) -> Result<(), RowFault>
     }
 }
 
-// Reads so many rows into the front of `out`, up to the first that is refused.
-fn read_rows(
-    bytes: &[u8],
-    rows: usize,
-    opening: Opening,
-    out: &mut [PageRow],
-) -> Result<usize, FileFault>
-    requires whole { 36 * rows + 36 ≡ length bytes.now }
-    requires few { rows ≤ 50000 }
-    requires room { rows ≤ length out.old }
-    ensures value { result ≡ ending rows (reading opening.value bytes.now rows).fault }
-    ensures after { out.new ≡ over (reading opening.value bytes.now rows).left out.old }
-{
-    let mut account = Account::new(opening);
-    for i in 0..rows {
-        let at = LINE * i;
-        let row = at_number(i as u32 + 1, read_line(&bytes[at..at + LINE], &account))?;
-        let Ok(next) = account.with(row, bytes.len()) else {
-            unreachable()
-        };
-        account = next;
-        out[i] = row;
-    }
-    Ok(rows)
+// The lines of a page, read into the front of a buffer, and the account of their rows.
+#[derive(Drop)]
+struct PageLines<'a> {
+    account: Account,
+    out: &'a mut [PageRow],
 }
 
-// The account of rows that a page took.
-fn account_of(rows: &[PageRow], opening: Opening) -> Account
-    requires fits { Fits (begun opening.value) rows.now }
-    requires few { length rows.now ≤ 50000 }
-    ensures { result.tally ≡ tallied opening.value rows.now }
-{
-    let room = LINE * rows.len() + LINE;
-    let mut account = Account::new(opening);
-    for row in rows {
-        let Ok(next) = account.with(*row, room) else {
-            unreachable()
-        };
-        account = next;
+impl<'a> PageLines<'a> {
+    fn new(opening: Opening, out: &'a mut [PageRow]) -> PageLines<'a>
+        ensures same { result.out.ghost_name ≡ out.entry.ghost_name }
+        ensures value { result.out.now ≡ out.old }
+        ensures begun { result.account.tally ≡ begun opening.value }
+    {
+        PageLines {
+            account: Account::new(opening),
+            out,
+        }
     }
-    account
 }
 
-// Whether the line after the rows is the foot that they and the quanta of a pace give.
-fn check_foot<P: Pace>(
-    line: &[u8],
-    rows: &[PageRow],
-    opening: Opening,
-    quanta: &P,
-) -> Result<usize, FileFault>
-    requires fits { Fits (begun opening.value) rows.now }
-    requires few { length rows.now ≤ 50000 }
-    ensures { result ≡ foot_ending (length rows.now) (foot_read (foot_of (P.Pace.quanta quanta.now) (tallied opening.value rows.now)) line.now) }
+impl RowTaker for PageLines<'_> {
+    ghost State = { Filled (ℕ × ℕ) PageRow };
+
+    ghost stands = { λ s self. Holds s s.kept.0 self.out self.account.tally.rows × (self.account.tally ≡ tallied s.kept.1 s.front) };
+
+    ghost step = { fill row_after };
+
+    ghost room = { spare };
+
+    fn take_row(&mut self, line: &[u8]) -> Result<(), RowFault> {
+        let row = read_line(line, &self.account)?;
+        let Ok(next) = self.account.with(row, usize::MAX) else {
+            unreachable()
+        };
+        self.out[self.account.tally.rows as usize] = row;
+        self.account = next;
+        Ok(())
+    }
+
+    ghost takes_room = { fill_room row_after };
+}
+
+// Whether the line after the rows of an account is the foot that they and the quanta of a pace give.
+fn check_foot<P: Pace>(line: &[u8], account: &Account, quanta: &P) -> Result<usize, FileFault>
+    ensures { result ≡ foot_ending account.now.tally.rows (foot_read (foot_of (P.Pace.quanta quanta.now) account.now.tally) line.now) }
 {
-    let foot = account_of(rows, opening).foot(quanta);
-    at_number(rows.len() as u32 + 1, read_foot(line, foot))?;
-    Ok(rows.len())
+    let rows = account.tally.rows;
+    at_number(rows + 1, read_foot(line, account.foot(quanta)))?;
+    Ok(rows as usize)
 }
 
 // Reads a page that was opened at a tick, with the quanta of a pace, into the front of `out`, and answers how many rows
@@ -158,6 +152,8 @@ pub fn read_page<P: Pace>(
     ensures back { ReadsBack (P.Pace.quanta quanta.now) opening.value bytes.now (length out.old) (page_read opening.value bytes.now (length out.old)) result }
 {
     let rows = count_lines(bytes.len(), out.len())?;
-    read_rows(bytes, rows, opening, out)?;
-    check_foot(&bytes[LINE * rows..], &out[0..rows], opening, quanta)
+    let (lines, foot) = bytes.split_at(LINE * rows);
+    let mut page = PageLines::new(opening, out);
+    read_rows(lines, rows, LINE, &mut page)?;
+    check_foot(foot, &page.account, quanta)
 }

@@ -14,9 +14,6 @@ pub record Sound (s : Shape) : Type 0 where
   pub narrow : s.width ≤ 19
   pub holds : s.limit < 10 ^ s.width
 
-pub sound_shape : (w l : ℕ) → 1 ≤ w → w ≤ 19 → l < 10 ^ w → Sound (shape w l)
-sound_shape w l a b c = record { some = a; narrow = b; holds = c }
-
 abbrev pub AllSound : List Shape → Type 0
 AllSound [] = Unit {0}
 AllSound (s ∷ ss) = Sound s × AllSound ss

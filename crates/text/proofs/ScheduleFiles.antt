@@ -1,5 +1,5 @@
 -- Schedules as files of rows: what is shown is read, what is read is shown, and what each refusal means.
-use Rattle.std.proofs.Common.{◌≡◌, ℕ, ◌*◌, List, [], ◌∷◌, length, take, drop, Ok, Err, Result, sym, refl, ap, ◌∙◌, subst, inl, inr, arith, lit<}
+use Rattle.std.proofs.Common.{◌≡◌, ℕ, ◌*◌, List, [], ◌∷◌, length, take, drop, Ok, Err, Result, sym, refl, ap, ◌∙◌, subst, inl, inr, arith}
 use Rattle.pace.specs.declared.fault.StepFault.{StepFault}
 use Rattle.pace.specs.Steps.{no_steps, added}
 use Rattle.rows.specs.declared.fault.RowFault.{RowFault}

@@ -8,7 +8,7 @@
 --   RowTaken      one row taken: its answer, and what is so of the state that it leaves
 --   RowsRead      the same of a number of rows
 --   fill          the step of rows whose items are read into a buffer, and what a buffer then holds
-use Rattle.std.specs.Prelude.{◌≡◌, ℕ, zero, suc, ◌+◌, ◌/◌, ◌%◌, true, false, ◌&&◌, List, [], ◌∷◌, ◌++◌, length, take, drop, Some, None, Ok, Err, Option, Result, ◌==◌, nat_le}
+use Rattle.std.specs.Prelude.{◌≡◌, ℕ, zero, suc, ◌+◌, ◌-◌, ◌/◌, ◌%◌, min, true, false, ◌&&◌, List, [], ◌∷◌, ◌++◌, length, take, drop, Some, None, Ok, Err, Option, Result, ◌==◌, nat_le}
 use Rattle.std.specs.Borrow.{MutBor}
 use Rattle.rows.specs.declared.fault.Numbered.{Numbered}
 use Rattle.rows.specs.declared.fault.RowFault.{RowFault}
@@ -65,22 +65,26 @@ module _ {S : Type 0} where
         abbrev pub file_read : ℕ → S → S
         file_read most old = left_of old (row_count width most (length bytes))
 
--- a buffer of items, by the name of its loan: those read, and what is left of what it held
-pub record Filled (A : Type 0) : Type 0 where
-  pub name : ℕ
+-- a buffer of items: those read, and what is left of what it held; with what stays the same
+pub record Filled (P A : Type 0) : Type 0 where
+  pub kept : P
   pub front : List A
   pub rest : List A
 
-module _ {A : Type 0} where
+module _ {P A : Type 0} where
   -- an item that was read takes the place of the first that is left
-  abbrev pub put_in : Filled A → Result A RowFault → Result (Filled A) RowFault
-  put_in s (Ok a) = Ok (record { name = s.name; front = s.front ++ a ∷ []; rest = drop 1 s.rest })
+  abbrev pub put_in : Filled P A → Result A RowFault → Result (Filled P A) RowFault
+  put_in s (Ok a) = Ok (record { kept = s.kept; front = s.front ++ a ∷ []; rest = drop 1 s.rest })
   put_in s (Err f) = Err f
 
   -- by what a row is read as after the items before it
-  abbrev pub fill : (List A → List ℕ → Result A RowFault) → Filled A → List ℕ → Result (Filled A) RowFault
-  fill item s row = put_in s (item s.front row)
+  abbrev pub fill : (P → List A → List ℕ → Result A RowFault) → Filled P A → List ℕ → Result (Filled P A) RowFault
+  fill item s row = put_in s (item s.kept s.front row)
 
-  -- the buffer holds that, and so many items were read
-  abbrev pub Holds : Filled A → MutBor (List A) → ℕ → Type 0
-  Holds s out count = (out.now ≡ s.front ++ s.rest) × (out.ghost_name ≡ s.name) × (count ≡ length s.front)
+  -- the rows that there is room for; no file has more than 50,000
+  abbrev pub spare : Filled P A → ℕ
+  spare s = min (length s.rest) (50000 - length s.front)
+
+  -- the buffer lent under a name holds that, and so many items were read
+  abbrev pub Holds : Filled P A → ℕ → MutBor (List A) → ℕ → Type 0
+  Holds s name out count = (out.now ≡ s.front ++ s.rest) × (out.ghost_name ≡ name) × (count ≡ length s.front)

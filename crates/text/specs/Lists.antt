@@ -49,9 +49,9 @@ abbrev pub last_asked : ℕ → List (Reply ℕ) → ℕ
 last_asked a [] = a
 last_asked a (r ∷ rs) = last_asked r.asked rs
 
--- the reply of a row after replies
-abbrev pub reply_after : List (Reply ℕ) → List ℕ → Result (Reply ℕ) RowFault
-reply_after rs row = reply_read (last_asked 0 rs) row
+-- the reply of a row after replies, whatever the buffer is called
+abbrev pub reply_after : ℕ → List (Reply ℕ) → List ℕ → Result (Reply ℕ) RowFault
+reply_after name rs row = reply_read (last_asked 0 rs) row
 
 abbrev pub onto : List (Reply ℕ) → Result (Reply ℕ) RowFault → Result (List (Reply ℕ)) RowFault
 onto rs (Ok r) = Ok (rs ++ r ∷ [])

@@ -3,7 +3,7 @@ ghost use Rattle.std.specs.Prelude.{◌≡◌, ℕ, ◌*◌, ◌≤◌, ◌++◌
 ghost use Rattle.source.specs.declared.reply.Reply.{Reply};
 ghost use Rattle.rows.specs.Columns.{list_row};
 ghost use Rattle.rows.specs.Rows.{fits};
-ghost use Rattle.text.specs.Files.{Filled, Holds, fill};
+ghost use Rattle.text.specs.Files.{Filled, Holds, fill, spare};
 ghost use Rattle.text.specs.Lists.{numbers_of, reply_shown, reply_read, list_step, list_answer, list_read, ListExact, over, last_asked, reply_after};
 ghost use Rattle.text.specs.Filling.{fill_room};
 ghost use Rattle.text.specs.ListWriting.{check_answer, list_write_answer, ListWritten, ReadsBack};
@@ -56,13 +56,13 @@ impl<'a> ListRows<'a> {
 }
 
 impl RowTaker for ListRows<'_> {
-    ghost State = { Filled (Reply ℕ) };
+    ghost State = { Filled ℕ (Reply ℕ) };
 
-    ghost stands = { λ s self. Holds s self.out self.count × (self.last ≡ last_asked 0 s.front) };
+    ghost stands = { λ s self. Holds s s.kept self.out self.count × (self.last ≡ last_asked 0 s.front) };
 
     ghost step = { fill reply_after };
 
-    ghost room = { λ s. length s.rest };
+    ghost room = { spare };
 
     fn take_row(&mut self, row: &[u8]) -> Result<(), RowFault> {
         let reply = read_reply(row, self.last)?;
