@@ -48,7 +48,7 @@ impl Pending {
 
 // The pace and the penalty rule that predictions are made by.
 #[derive(Drop)]
-pub struct Predictor<'a, P, R> {
+pub(crate) struct Predictor<'a, P, R> {
     pub(crate) pace: &'a P,
     pub(crate) penalty: &'a R,
 }

@@ -27,9 +27,6 @@ module _ {B : Type 0} where
     pub asks : map (λ (s : Step B). asked s.event) steps ≡ take n requests
     pub reports : after ≡ map (λ (s : Step B). s.event) steps ++ drop n before
 
-  pub playing_none : (m : Rules) (v : View B) (requests : List Request) (before : List (Event B)) → Playing m v v requests before before 0
-  playing_none m v requests before = record { steps = []; runs = tt; ends = refl; asks = refl; reports = refl }
-
   module _ (m : Rules) (v w : View B) (requests : List Request) (before after : List (Event B)) (n : ℕ) (p : Playing m v w requests before after n) where
     long : n ≤ length requests → length (map (λ (s : Step B). s.event) p.steps) ≡ n
     long h =

@@ -2,8 +2,8 @@
 #![tactic(auto)]
 
 ghost use Rattle.std.specs.Prelude.{◌≡◌};
-ghost use Rattle.promise.specs.Runs.{asked, Call, Played};
-ghost use Rattle.gate.specs.Gates.{view_of, rules_in};
+ghost use Rattle.promise.specs.Runs.{asked, Played};
+ghost use Rattle.gate.specs.Gates.{view_of, rules_in, GateCall};
 
 use gate::Gate;
 use pace::{Pace, Penalty};
@@ -12,7 +12,7 @@ use source::Source;
 
 // Makes the call that is asked for, and gives it with its answer.
 fn ask<S: Source, P: Pace, R: Penalty>(gate: &mut Gate<S, P, R>, request: Request) -> Event<S::Body>
-    ensures call { Call (rules_in P.Pace R.Penalty gate.old) (view_of S.Source gate.old) result (view_of S.Source gate.new) }
+    ensures call { GateCall S.Source P.Pace R.Penalty gate.old result gate.new }
     ensures asked { asked result ≡ request }
     ensures same { rules_in P.Pace R.Penalty gate.new ≡ rules_in P.Pace R.Penalty gate.old }
 {

@@ -1,13 +1,10 @@
-use Rattle.std.proofs.Common.{◌≡◌, length, take, refl, ◌∙◌, subst, arith}
+use Rattle.std.proofs.Common.{◌≡◌, length, take, ◌∙◌, subst, arith}
 use Rattle.std.proofs.lemmas.List.{length-take-le, get_or-take}
 use Rattle.promise.specs.Rules.{Rules}
 use Rattle.promise.specs.Runs.{Call, Played}
 use Rattle.gate.specs.Gates.{view_of}
-use Rattle.play.proofs.Playing.{playing_none, playing_more, played}
+use Rattle.play.proofs.Playing.{playing_more, played}
 use Rattle.play.proofs.play.Goals as goal
-
-pub loop-i-init : goal.loop-i-init
-loop-i-init g c = (refl, playing_none _ _ _ _)
 
 pub loop-i-preserved : goal.loop-i-preserved
 loop-i-preserved g c =
@@ -21,11 +18,7 @@ loop-i-preserved g c =
           (e.asked ∙ get_or-take c.min-count.result c.args.requests.now c.loop-i.i _ (omega (arith, n))),
     )
 
-pub returns : goal.returns
-returns g c =
-    let i = c.loop-i.invariant in
+pub returns-clause-played : goal.returns-clause-played
+returns-clause-played g c =
     let n : c.loop-i.i ≡ c.min-count.result = omega (arith, length-take-le c.min-count.result c.args.requests.now (omega (arith, c.min-count.ensures))) in
-    record {
-      played = subst (Played _ _ _ _ _ _) n (played _ _ _ _ _ _ _ i.1 (omega (arith, n, c.min-count.ensures)));
-      same = i.0;
-    }
+    subst (Played _ _ _ _ _ _) n (played _ _ _ _ _ _ _ c.loop-i.invariant.1 (omega (arith, n, c.min-count.ensures)))
