@@ -5,3 +5,4 @@ pub mod FootLaws
 pub mod WholePages
 pub mod PageAnswers
 pub mod PageRuns
+pub mod Accounting

@@ -93,19 +93,17 @@ foot_answer quanta opening bytes n m rs o e k =
     ∙ ap (rows_ending quanta opening bytes n rs) (sym e)
 
 -- what reading the lines into a buffer leaves, in the words of the whole page
-pub record PageRead (opening : ℕ) (bytes : List ℕ) (n : ℕ) (old : List PageRow) (name : ℕ) (r : Result ℕ FileFault) (out : MutBor (List PageRow)) (t : Tally) : Type 0 where
+pub record PageRead (opening : ℕ) (bytes : List ℕ) (n : ℕ) (old : List PageRow) (name : ℕ) (r : Result ℕ FileFault) (out : MutBor (List PageRow)) : Type 0 where
   pub value : r ≡ ending n (reading opening bytes n).fault
   pub after : out.now ≡ over (reading opening bytes n).left old
   pub same : out.ghost_name ≡ name
-  pub rows : t.rows ≡ length (reading opening bytes n).left
-  pub tally : t ≡ tallied opening (reading opening bytes n).left
 
 -- `began` is the buffer, and `b` the tally, as the reading begins
 pub page_read_is : (opening : ℕ) (bytes lines : List ℕ) (n : ℕ) (old : List PageRow) (began : MutBor (List PageRow)) (b : Tally) (r : Result ℕ FileFault) (out : MutBor (List PageRow)) (t : Tally)
     → lines ≡ take (36 * n) bytes → began.now ≡ old → b ≡ begun opening
     → ((s : Filled (ℕ × ℕ) PageRow) → Holds s s.kept.0 began b.rows × (b ≡ tallied s.kept.1 s.front)
     → Rattle.text.specs.Files.RowsRead (fill row_after) 36 n lines s (λ s. Holds s s.kept.0 out t.rows × (t ≡ tallied s.kept.1 s.front)) r)
-    → PageRead opening bytes n old began.ghost_name r out t
+    → PageRead opening bytes n old began.ghost_name r out
 page_read_is opening bytes lines n old began b r out t front all none reads =
     let name : ℕ = began.ghost_name in
     let read = reads (record { kept = (name, opening); front = []; rest = old }) ((all, refl, ap (λ (x : Tally). x.rows) none), none) in
@@ -117,11 +115,23 @@ page_read_is opening bytes lines n old began b r out t front all none reads =
       value = f.value ∙ ap (λ (x : Reading (List PageRow)). ending n x.fault) is;
       after = f.after ∙ ap (λ (x : Reading (List PageRow)). over x.left old) is;
       same = f.same;
-      rows = f.many ∙ ap (λ (x : Reading (List PageRow)). length x.left) is;
-      tally = f.left ∙ ap (λ (x : Reading (List PageRow)). tallied opening x.left) is;
     }
 
 -- all rows were read
 pub none_stopped : (n m : ℕ) (o : Option (Numbered RowFault)) → Ok m ≡ ending n o → o ≡ None
 none_stopped n m None h = refl
 none_stopped n m (Some f) h = let z : ◌≡◌ {A = ℕ} 0 1 = cc in absurd (omega arith)
+
+-- the rows that a reading which was not stopped left stand at the front of the buffer
+pub record RowsTaken (opening : ℕ) (bytes : List ℕ) (n : ℕ) (out : List PageRow) : Type 0 where
+  pub none : (reading opening bytes n).fault ≡ None
+  pub rows : RowsRead opening n bytes (reading opening bytes n).left
+  pub front : take n out ≡ (reading opening bytes n).left
+
+pub rows_taken : (opening : ℕ) (bytes : List ℕ) (n : ℕ) (old out : List PageRow) (m : ℕ) → 36 * n ≤ length bytes
+    → Ok m ≡ ending n (reading opening bytes n).fault → out ≡ over (reading opening bytes n).left old → RowsTaken opening bytes n out
+rows_taken opening bytes n old out m long ok after =
+    let none = none_stopped n m (reading opening bytes n).fault ok in
+    let rs : List PageRow = (reading opening bytes n).left in
+    let rows = rows_only opening n bytes rs long (reading_is (reading opening bytes n) none) in
+    record { none = none; rows = rows; front = ap (take n) after ∙ take_at rs (drop (length rs) old) n rows.count }

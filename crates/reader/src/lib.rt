@@ -2,7 +2,7 @@
 #![tactic(auto)]
 
 ghost use Rattle.std.specs.Prelude.{◌≡◌, ℕ, ◌+◌, ◌*◌, ◌≤◌, length, IfOk};
-ghost use Rattle.text.specs.Files.{Filled, Holds, fill, spare};
+ghost use Rattle.text.specs.Files.{ending, Filled, Holds, fill, spare};
 ghost use Rattle.text.specs.Filling.{fill_room};
 ghost use Rattle.text.specs.Lists.{over};
 ghost use Rattle.tally.specs.declared.line.PageRow.{PageRow};
@@ -10,7 +10,7 @@ ghost use Rattle.tally.specs.Tallies.{begun, tallied, foot_of};
 ghost use Rattle.rows.specs.Columns.{foot_row};
 ghost use Rattle.rows.specs.Rows.{row_read};
 ghost use Rattle.reader.specs.PageRuns.{ReadsBack};
-ghost use Rattle.reader.specs.PageFiles.{line_read, row_after, same_foot, foot_from, foot_read, foot_ending, page_count, page_answer, page_read, PageExact};
+ghost use Rattle.reader.specs.PageFiles.{Fits, line_read, row_after, same_foot, foot_from, foot_read, foot_ending, page_count, reading, page_answer, page_read, PageExact};
 
 use gate::opening::Opening;
 use pace::Pace;
@@ -52,14 +52,7 @@ fn read_line(line: &[u8], account: &Account) -> Result<PageRow, RowFault>
 fn same_foot(numbers: [u64; 5], foot: Foot) -> bool
     ensures { result ≡ same_foot foot numbers }
 {
-    numbers
-        == [
-            foot.rows as u64,
-            foot.clock as u64,
-            foot.classes as u64,
-            foot.bits as u64,
-            foot.misses as u64,
-        ]
+    numbers == foot.numbers()
 }
 
 // Whether the fields after a "=" are those of a foot: their form, the newline, and then their numbers.
@@ -129,13 +122,53 @@ impl RowTaker for PageLines<'_> {
     ghost takes_room = { fill_room row_after };
 }
 
-// Whether the line after the rows of an account is the foot that they and the quanta of a pace give.
-fn check_foot<P: Pace>(line: &[u8], account: &Account, quanta: &P) -> Result<usize, FileFault>
-    ensures { result ≡ foot_ending account.now.tally.rows (foot_read (foot_of (P.Pace.quanta quanta.now) account.now.tally) line.now) }
+// Reads so many rows into the front of `out`, up to the first that is refused.
+fn read_lines(
+    bytes: &[u8],
+    rows: usize,
+    opening: Opening,
+    out: &mut [PageRow],
+) -> Result<usize, FileFault>
+    requires whole { 36 * rows + 36 ≡ length bytes.now }
+    requires few { rows ≤ 50000 }
+    requires room { rows ≤ length out.old }
+    ensures value { result ≡ ending rows (reading opening.value bytes.now rows).fault }
+    ensures after { out.new ≡ over (reading opening.value bytes.now rows).left out.old }
 {
-    let rows = account.tally.rows;
-    at_number(rows + 1, read_foot(line, account.foot(quanta)))?;
-    Ok(rows as usize)
+    let mut page = PageLines::new(opening, out);
+    read_rows(&bytes[..LINE * rows], rows, LINE, &mut page)
+}
+
+// The account of rows that a page took.
+fn account_of(rows: &[PageRow], opening: Opening) -> Account
+    requires fits { Fits (begun opening.value) rows.now }
+    requires few { length rows.now ≤ 50000 }
+    ensures { result.tally ≡ tallied opening.value rows.now }
+{
+    let mut account = Account::new(opening);
+    for row in rows {
+        let Ok(next) = account.with(*row, usize::MAX) else {
+            unreachable()
+        };
+        account = next;
+    }
+    account
+}
+
+// Whether the line after the rows is the foot that they and the quanta of a pace give.
+fn check_foot<P: Pace>(
+    line: &[u8],
+    rows: &[PageRow],
+    opening: Opening,
+    quanta: &P,
+) -> Result<usize, FileFault>
+    requires fits { Fits (begun opening.value) rows.now }
+    requires few { length rows.now ≤ 50000 }
+    ensures { result ≡ foot_ending (length rows.now) (foot_read (foot_of (P.Pace.quanta quanta.now) (tallied opening.value rows.now)) line.now) }
+{
+    let foot = account_of(rows, opening).foot(quanta);
+    at_number(rows.len() as u32 + 1, read_foot(line, foot))?;
+    Ok(rows.len())
 }
 
 // Reads a page that was opened at a tick, with the quanta of a pace, into the front of `out`, and answers how many rows
@@ -152,8 +185,6 @@ pub fn read_page<P: Pace>(
     ensures back { ReadsBack (P.Pace.quanta quanta.now) opening.value bytes.now (length out.old) (page_read opening.value bytes.now (length out.old)) result }
 {
     let rows = count_lines(bytes.len(), out.len())?;
-    let (lines, foot) = bytes.split_at(LINE * rows);
-    let mut page = PageLines::new(opening, out);
-    read_rows(lines, rows, LINE, &mut page)?;
-    check_foot(foot, &page.account, quanta)
+    read_lines(bytes, rows, opening, out)?;
+    check_foot(&bytes[LINE * rows..], &out[..rows], opening, quanta)
 }

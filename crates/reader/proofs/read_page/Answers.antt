@@ -1,11 +1,10 @@
-use Rattle.std.proofs.Common.{ℕ, List, [], length, Err, sym, refl, ap, ◌∙◌, arith, rules}
+use Rattle.std.proofs.Common.{◌≡◌, ℕ, ◌-◌, ◌*◌, List, length, take, drop, Err, sym, ap, ◌∙◌, subst, arith, length-drop, take_all}
 use Rattle.std.proofs.lemmas.Result.{err_from_is_err_and}
 use Rattle.text.specs.Lists.{over}
-use Rattle.tally.specs.declared.account.Tally.{Tally}
 use Rattle.tally.specs.declared.line.PageRow.{PageRow}
-use Rattle.tally.specs.Tallies.{tallied, foot_of}
-use Rattle.reader.specs.PageFiles.{foot_read, foot_ending, answer_of, read_of, reading}
-use Rattle.reader.proofs.WholePages.{page_read_is, none_stopped, rows_only, reading_is, stop_answer, foot_answer}
+use Rattle.tally.specs.Tallies.{begun, tallied, foot_of}
+use Rattle.reader.specs.PageFiles.{Fits, foot_read, foot_ending, answer_of, read_of, reading}
+use Rattle.reader.proofs.WholePages.{rows_taken, stop_answer, foot_answer}
 use Rattle.reader.proofs.PageAnswers.{page_exact}
 use Rattle.reader.proofs.PageRuns.{reads_back}
 use Rattle.reader.proofs.read_page.Goals as goal
@@ -25,35 +24,33 @@ returns-in_err-rows g c =
       back = reads_back quanta o bytes (length c.args.out.now) c.args.opening.high (g.met.P.Pace.lawful c.args.quanta.now).quantum_low _ value;
     }
 
-pub read_rows-requires-clause-room : goal.read_rows-requires-clause-room
-read_rows-requires-clause-room g c =
-    let page = c.new-page.ensures in (
-      record { kept = (c.new-page.result.out.ghost_name, c.args.opening.value); front = []; rest = c.args.out.now },
-      ((page.value, refl, ap (λ (t : Tally). t.rows) page.begun), page.begun),
-      omega (arith, c.in_ok-rows.ensures.within),
-    )
-
-pub returns-in_err-read_rows : goal.returns-in_err-read_rows
-returns-in_err-read_rows g c =
+pub returns-in_err-read_lines : goal.returns-in_err-read_lines
+returns-in_err-read_lines g c =
     let quanta = g.P.Pace.quanta c.args.quanta.now in
     let bytes = c.args.bytes.now in
     let o : ℕ = c.args.opening.value in
     let n : ℕ = c.in_ok-rows.rows in
     let count = c.in_ok-rows.ensures.value in
-    let page = c.new-page.ensures in
-    let left = c.read_rows.new.taker in
-    let read = page_read_is o bytes _ n c.args.out.now c.new-page.result.out c.new-page.result.account.tally c.read_rows.result left.out left.account.tally
-    c.split_at.ensures.front page.value page.begun c.read_rows.ensures in
-    let p = err_from_is_err_and c.from_residual-in_err-read_rows.result c.from_residual-in_err-read_rows.ensures.1 in
-    let value = p.1 ∙ (ap Err p.2 ∙ stop_answer quanta o bytes n (reading o bytes n).left (reading o bytes n).fault _ (sym c.in_err-read_rows.was ∙ read.value))
+    let p = err_from_is_err_and c.from_residual-in_err-read_lines.result c.from_residual-in_err-read_lines.ensures.1 in
+    let value = p.1 ∙ (ap Err p.2 ∙ stop_answer quanta o bytes n (reading o bytes n).left (reading o bytes n).fault _ c.in_err-read_lines.ensures.value)
     ∙ ap (answer_of quanta o bytes) count in
-    let after = read.after ∙ ap (λ x. over (read_of o bytes x) c.args.out.now) count in
-    let same = sym page.same ∙ sym read.same in
     record {
       value = value;
-      after = search rules;
+      after = c.read_lines.ensures.after ∙ ap (λ x. over (read_of o bytes x) c.args.out.now) count;
       exact = page_exact quanta o bytes (length c.args.out.now) _ value;
       back = reads_back quanta o bytes (length c.args.out.now) c.args.opening.high (g.met.P.Pace.lawful c.args.quanta.now).quantum_low _ value;
+    }
+
+pub check_foot-requires : goal.check_foot-requires
+check_foot-requires g c =
+    let bytes = c.args.bytes.now in
+    let o : ℕ = c.args.opening.value in
+    let n : ℕ = c.in_ok-rows.rows in
+    let w = c.in_ok-rows.ensures.within in
+    let read = rows_taken o bytes n c.args.out.now c.read_lines.new.out c.in_ok-read_lines.field-0 (omega (arith, w)) c.in_ok-read_lines.ensures.value c.read_lines.ensures.after in
+    record {
+      fits = subst (Fits (begun o)) (sym read.front) read.rows.fits;
+      few = omega (arith, ap length read.front, read.rows.count, w);
     }
 
 pub returns : goal.returns
@@ -62,24 +59,20 @@ returns g c =
     let bytes = c.args.bytes.now in
     let o : ℕ = c.args.opening.value in
     let n : ℕ = c.in_ok-rows.rows in
+    let w = c.in_ok-rows.ensures.within in
     let count = c.in_ok-rows.ensures.value in
-    let page = c.new-page.ensures in
-    let left = c.read_rows.new.taker in
-    let read = page_read_is o bytes _ n c.args.out.now c.new-page.result.out c.new-page.result.account.tally c.read_rows.result left.out left.account.tally
-    c.split_at.ensures.front page.value page.begun c.read_rows.ensures in
-    let none = none_stopped n _ (reading o bytes n).fault (sym c.in_ok-read_rows.was ∙ read.value) in
+    let read = rows_taken o bytes n c.args.out.now c.read_lines.new.out c.in_ok-read_lines.field-0 (omega (arith, w)) c.in_ok-read_lines.ensures.value c.read_lines.ensures.after in
     let rs : List PageRow = (reading o bytes n).left in
-    let rows = rows_only o n bytes rs (omega (arith, c.in_ok-rows.ensures.within)) (reading_is (reading o bytes n) none) in
+    let line = take (length bytes - 36 * n) (drop (36 * n) bytes) in
+    let whole : line ≡ drop (36 * n) bytes = take_all (length bytes - 36 * n) (drop (36 * n) bytes) (omega (arith, length-drop (36 * n) bytes)) in
     let value = c.check_foot.ensures
-    ∙ ap (λ t. foot_ending left.account.tally.rows (foot_read (foot_of quanta t) c.split_at.result.1.now)) read.tally
-    ∙ ap (λ x. foot_ending left.account.tally.rows (foot_read (foot_of quanta (tallied o rs)) x)) c.split_at.ensures.back
-    ∙ foot_answer quanta o bytes n _ rs (reading o bytes n).fault none (read.rows ∙ rows.count)
+    ∙ ap (λ x. foot_ending (length x) (foot_read (foot_of quanta (tallied o x)) line)) read.front
+    ∙ ap (λ x. foot_ending (length rs) (foot_read (foot_of quanta (tallied o rs)) x)) whole
+    ∙ foot_answer quanta o bytes n (length rs) rs (reading o bytes n).fault read.none read.rows.count
     ∙ ap (answer_of quanta o bytes) count in
-    let after = read.after ∙ ap (λ x. over (read_of o bytes x) c.args.out.now) count in
-    let same = sym page.same ∙ sym read.same in
     record {
       value = value;
-      after = search rules;
+      after = c.read_lines.ensures.after ∙ ap (λ x. over (read_of o bytes x) c.args.out.now) count;
       exact = page_exact quanta o bytes (length c.args.out.now) _ value;
       back = reads_back quanta o bytes (length c.args.out.now) c.args.opening.high (g.met.P.Pace.lawful c.args.quanta.now).quantum_low _ value;
     }
