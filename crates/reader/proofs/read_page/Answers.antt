@@ -28,7 +28,7 @@ returns-in_err-rows g c =
 pub read_rows-requires-clause-room : goal.read_rows-requires-clause-room
 read_rows-requires-clause-room g c =
     let page = c.new-page.ensures in (
-      record { kept = (c.new-page.result.out.ghost_name, c.args.opening.tick); front = []; rest = c.args.out.now },
+      record { kept = record { name = c.new-page.result.out.ghost_name; opening = c.args.opening.tick }; front = []; rest = c.args.out.now },
       ((page.value, refl, ap (λ (t : Tally). t.rows) page.begun), page.begun),
       omega (arith, c.in_ok-rows.ensures.within),
     )
