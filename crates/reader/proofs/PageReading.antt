@@ -11,8 +11,8 @@ counted_push t [] r = refl
 counted_push t (q ∷ rs) r = counted_push (taken t q) rs r
 
 module _ (name opening : ℕ) where
-  pub page_takes : (rs : List PageRow) (line : List ℕ) (r : PageRow) → row_after (name, opening) rs line ≡ Ok r → page_step opening rs line ≡ Ok (rs ++ r ∷ [])
+  pub page_takes : (rs : List PageRow) (line : List ℕ) (r : PageRow) → row_after (record { name = name; opening = opening }) rs line ≡ Ok r → page_step opening rs line ≡ Ok (rs ++ r ∷ [])
   page_takes rs line r e = ap (onto rs) e
 
-  pub page_refuses : (rs : List PageRow) (line : List ℕ) (f : RowFault) → row_after (name, opening) rs line ≡ Err f → page_step opening rs line ≡ Err f
+  pub page_refuses : (rs : List PageRow) (line : List ℕ) (f : RowFault) → row_after (record { name = name; opening = opening }) rs line ≡ Err f → page_step opening rs line ≡ Err f
   page_refuses rs line f e = ap (onto rs) e

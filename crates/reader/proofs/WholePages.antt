@@ -13,7 +13,7 @@ use Rattle.text.proofs.FileLaws.{file_back, file_only, length_file, file_stops}
 use Rattle.tally.specs.declared.line.PageRow.{PageRow}
 use Rattle.tally.specs.declared.account.Tally.{Tally}
 use Rattle.tally.specs.Tallies.{begun, tallied, foot_of}
-use Rattle.reader.specs.PageFiles.{rows_shown, Fits, row_after, page_step, foot_read, foot_ending, rows_ending, reading}
+use Rattle.reader.specs.PageFiles.{rows_shown, Fits, Reads, row_after, page_step, foot_read, foot_ending, rows_ending, reading}
 use Rattle.reader.proofs.PageReading.{page_takes, page_refuses}
 use Rattle.reader.proofs.PageLaws.{Line, lines, lines_shown, lines_put, lines_fit, rows_of, numbered, numbered_rows, numbered_fit, read_front}
 
@@ -101,14 +101,14 @@ pub record PageRead (opening : ℕ) (bytes : List ℕ) (n : ℕ) (old : List Pag
 -- `began` is the buffer, and `b` the tally, as the reading begins
 pub page_read_is : (opening : ℕ) (bytes lines : List ℕ) (n : ℕ) (old : List PageRow) (began : MutBor (List PageRow)) (b : Tally) (r : Result ℕ FileFault) (out : MutBor (List PageRow)) (t : Tally)
     → lines ≡ take (36 * n) bytes → began.now ≡ old → b ≡ begun opening
-    → ((s : Filled (ℕ × ℕ) PageRow) → Holds s s.kept.0 began b.rows × (b ≡ tallied s.kept.1 s.front)
-    → Rattle.text.specs.Files.RowsRead (fill row_after) 36 n lines s (λ s. Holds s s.kept.0 out t.rows × (t ≡ tallied s.kept.1 s.front)) r)
+    → ((s : Filled Reads PageRow) → Holds s s.kept.name began b.rows × (b ≡ tallied s.kept.opening s.front)
+    → Rattle.text.specs.Files.RowsRead (fill row_after) 36 n lines s (λ s. Holds s s.kept.name out t.rows × (t ≡ tallied s.kept.opening s.front)) r)
     → PageRead opening bytes n old began.ghost_name r out
 page_read_is opening bytes lines n old began b r out t front all none reads =
     let name : ℕ = began.ghost_name in
-    let read = reads (record { kept = (name, opening); front = []; rest = old }) ((all, refl, ap (λ (x : Tally). x.rows) none), none) in
-    let f = buffer_read (name, opening) row_after (page_step opening) (page_takes name opening) (page_refuses name opening) 36 old n lines (λ (p : ℕ × ℕ). p.0) r out t.rows
-    (λ s. t ≡ tallied s.kept.1 s.front) read in
+    let read = reads (record { kept = record { name = name; opening = opening }; front = []; rest = old }) ((all, refl, ap (λ (x : Tally). x.rows) none), none) in
+    let f = buffer_read (record { name = name; opening = opening }) row_after (page_step opening) (page_takes name opening) (page_refuses name opening) 36 old n lines (λ (p : Reads). p.name) r out t.rows
+    (λ s. t ≡ tallied s.kept.opening s.front) read in
     let is : read_rows (page_step opening) 36 n lines 1 [] ≡ reading opening bytes n
     = ap (λ x. read_rows (page_step opening) 36 n x 1 []) front ∙ read_front (page_step opening) 36 n bytes 1 [] in
     record {

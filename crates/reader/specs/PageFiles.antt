@@ -3,6 +3,7 @@
 --   Fits          each row is in its turn one that a page takes: class at most 7, and the order and range
 --   row_of        the row of a line's numbers
 --   line_read     the row of a line, or the line's fault; its number, order and range are judged last
+--   row_after     the same, after rows
 --   foot_read     whether a line is a given foot, or its fault; the "=" is its field 1
 --   page_count    how many rows a page has besides its foot; the size is judged before any row
 --   page_answer   the number of rows of a page, or its first fault
@@ -49,9 +50,14 @@ turn_from t (Err f) = Err f
 abbrev pub line_read : Tally → List ℕ → Result PageRow RowFault
 line_read t line = turn_from t (row_read 1 page_row line)
 
--- the row of a line after rows, on a page read into a buffer of a name, and opened at a tick
-abbrev pub row_after : ℕ × ℕ → List PageRow → List ℕ → Result PageRow RowFault
-row_after page rs line = line_read (tallied page.1 rs) line
+-- what stays the same while a page is read: the name under which its buffer is lent, and its opening
+pub record Reads : Type 0 where
+  pub name : ℕ
+  pub opening : ℕ
+
+-- the row of a line after rows
+abbrev pub row_after : Reads → List PageRow → List ℕ → Result PageRow RowFault
+row_after page rs line = line_read (tallied page.opening rs) line
 
 abbrev pub onto : List PageRow → Result PageRow RowFault → Result (List PageRow) RowFault
 onto rs (Ok r) = Ok (rs ++ r ∷ [])

@@ -10,7 +10,7 @@ ghost use Rattle.tally.specs.Tallies.{begun, tallied, foot_of};
 ghost use Rattle.rows.specs.Columns.{foot_row};
 ghost use Rattle.rows.specs.Rows.{row_read};
 ghost use Rattle.reader.specs.PageRuns.{ReadsBack};
-ghost use Rattle.reader.specs.PageFiles.{Fits, line_read, row_after, same_foot, foot_from, foot_read, foot_ending, page_count, reading, page_answer, page_read, PageExact};
+ghost use Rattle.reader.specs.PageFiles.{Fits, line_read, Reads, row_after, same_foot, foot_from, foot_read, foot_ending, page_count, reading, page_answer, page_read, PageExact};
 
 use gate::opening::Opening;
 use pace::Pace;
@@ -101,9 +101,9 @@ impl<'a> PageLines<'a> {
 }
 
 impl RowTaker for PageLines<'_> {
-    ghost State = { Filled (ℕ × ℕ) PageRow };
+    ghost State = { Filled Reads PageRow };
 
-    ghost stands = { λ s self. Holds s s.kept.0 self.out self.account.tally.rows × (self.account.tally ≡ tallied s.kept.1 s.front) };
+    ghost stands = { λ s self. Holds s s.kept.name self.out self.account.tally.rows × (self.account.tally ≡ tallied s.kept.opening s.front) };
 
     ghost step = { fill row_after };
 

@@ -14,7 +14,7 @@ pub struct Misfit;
 
 // The field of a column at the front of the bytes, and the bytes after it; where they run out it has no form.
 fn read_column(column: Column, bytes: &[u8]) -> Result<(u64, &[u8]), FieldFault>
-    ensures { MatchResult result (λ p. (column_read column.width column.limit bytes.now ≡ Ok p.0) × (p.1.now ≡ drop column.width bytes.now)) (λ f. column_read column.width column.limit bytes.now ≡ Err f) }
+    ensures { let read = column_read column.width column.limit bytes.now in MatchResult result (λ p. (read ≡ Ok p.0) × (p.1.now ≡ drop column.width bytes.now)) (λ f. read ≡ Err f) }
 {
     let (field, rest) = bytes
         .split_at_checked(column.width)

@@ -1,4 +1,4 @@
-// Files of rows: how many rows a file has.
+// Files of rows: how many rows a file has, and one loop that reads the rows of every kind of file.
 ghost use Rattle.std.specs.Prelude.{◌≡◌, ℕ, ◌+◌, ◌*◌, ◌/◌, ◌<◌, ◌≤◌, ◌^◌, List, Ok, Result, length, IfOk};
 ghost use Rattle.rows.specs.declared.fault.RowFault.{RowFault};
 ghost use Rattle.text.specs.Files.{row_count, RowTaken, RowsRead};
@@ -6,15 +6,17 @@ ghost use Rattle.text.specs.Files.{row_count, RowTaken, RowsRead};
 use super::fault::FileFault;
 use rows::fault::{RowFault, at_number};
 
-// What takes the rows of a file one after another: what stands there, and what a row makes of it.
+// What takes the rows of a file one after another.
 pub trait RowTaker {
+    // What the rows taken so far make, and where it stands.
     ghost State: { Type 0 };
 
     ghost stands: { State → Self → Type 0 };
 
+    // What one row more makes of it, or why that row is refused.
     ghost step: { State → List ℕ → Result State RowFault };
 
-    // how many more rows there is room for
+    // How many more rows there is room for.
     ghost room: { State → ℕ };
 
     // Takes a row; refused, it leaves what stood there.

@@ -33,7 +33,7 @@ fn read_reply(row: &[u8], last: u32) -> Result<Reply<u32>, RowFault>
     })
 }
 
-// The rows of a list, read into the front of a buffer: how many were read, and when the last of them was asked.
+// The replies of a list, read into the front of a buffer: how many there are so far, and when the last was asked.
 #[derive(Drop)]
 struct ListRows<'a> {
     out: &'a mut [Reply<u32>],

@@ -6,7 +6,7 @@ use Rattle.reader.proofs.read_lines.Goals as goal
 pub read_rows-requires-clause-room : goal.read_rows-requires-clause-room
 read_rows-requires-clause-room c =
     let page = c.new-page.ensures in (
-      record { kept = (c.new-page.result.out.ghost_name, c.args.opening.value); front = []; rest = c.args.out.now },
+      record { kept = record { name = c.new-page.result.out.ghost_name; opening = c.args.opening.value }; front = []; rest = c.args.out.now },
       ((page.value, refl, ap (λ (t : Tally). t.rows) page.begun), page.begun),
       omega (arith, c.requires),
     )

@@ -26,5 +26,5 @@ returns c =
     let p = item_placed s _ r page.out t.rows st.0 room.0 in
     let read = ap (λ x. line_read x c.args.line.now) (sym st.1) ∙ (sym c.read_line.ensures ∙ c.in_ok-row.was) in
     let rows = ap (λ (x : Tally). x.rows) c.in-Ok.ensures.1 in
-    let tally = c.in-Ok.ensures.1 ∙ ap (λ x. taken x r) st.1 ∙ sym (counted_push (begun s.kept.1) s.front r) in
+    let tally = c.in-Ok.ensures.1 ∙ ap (λ x. taken x r) st.1 ∙ sym (counted_push (begun s.kept.opening) s.front r) in
     (with_item s r, ap (put_in s) read, ((p.0, st.0.1, rows ∙ p.1), tally))
