@@ -48,9 +48,14 @@ impl Ledger {
         ensures after { standing_of self.new ≡ charged (standing_of self.old) «class» settled }
         ensures releases { sum (releases_in self.new.rows) ≡ sum (releases_in self.old.rows) + 1 }
     {
-        self.clock = settled.tick;
-        self.all_misses += settled.misses;
-        self.rows[class as usize].charge(settled.misses);
+        let mut rows = self.rows;
+        rows[class as usize].charge(settled.misses);
+        *self = Ledger {
+            opening: self.opening,
+            clock: settled.tick,
+            all_misses: self.all_misses + settled.misses,
+            rows,
+        };
     }
 
     // The misses of a class.

@@ -17,7 +17,8 @@ use pace::{Pace, Penalty};
 use predict::{Pending, Predictor};
 use promise::release::{Release, Settled};
 use source::Source;
-use source::reply::{End, LAST_CLASS, Reply};
+use source::class::Class;
+use source::reply::{End, Reply};
 
 pub mod ledger;
 pub mod opening;
@@ -117,10 +118,8 @@ impl<S: Source, P: Pace, R: Penalty> Gate<S, P, R> {
     pub fn misses(&self, class: u8) -> Result<u32, UnknownClass>
         ensures call { GateCall S.Source P.Pace R.Penalty self.now (event.Misses «class» result) self.now }
     {
-        if class > LAST_CLASS {
-            return Err(UnknownClass);
-        }
-        Ok(self.ledger.misses(class))
+        let class = Class::try_from(class)?;
+        Ok(self.ledger.misses(class.number()))
     }
 
     // The last release tick, or else the opening.

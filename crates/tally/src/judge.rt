@@ -8,7 +8,8 @@ use super::leak::{exponent, marked, row_bits};
 use super::line::{Foot, LINE, MOST_ROWS, PageFault, PageRow};
 use gate::opening::Opening;
 use pace::Pace;
-use source::reply::{HORIZON, LAST_CLASS};
+use source::class::Class;
+use source::reply::HORIZON;
 
 // A row has at most this many misses, and a page at most so many.
 pub const MOST_ROW_MISSES: u32 = 29;
@@ -54,9 +55,7 @@ impl Account {
     fn judge(&self, row: PageRow, room: usize) -> Result<(), PageFault>
         ensures { result ≡ row_answer self.now.tally row room }
     {
-        if row.class > LAST_CLASS {
-            return Err(PageFault::Class);
-        }
+        Class::try_from(row.class).map_err(|_| PageFault::Class)?;
         if !self.admits(row) {
             return Err(PageFault::Order);
         }
