@@ -132,10 +132,6 @@ pub row_refused : (k : ℕ) (ss : List Shape) (row : List ℕ) (r : Result (List
 row_refused k ss row (Ok vs) ok e = tt
 row_refused k ss row (Err f) ok e = first_fault k ss row f ok (sym e)
 
--- the answer of a writing
-pub writes : (ss : List Shape) (vs : List ℕ) (room : ℕ) → room ≡ widths ss + 1 → fits ss vs ≡ true → Ok tt ≡ write_answer ss vs room
-writes ss vs room e f = rw (and_from (eqb room (widths ss + 1)) (fits ss vs) (eq-eqb room (widths ss + 1) e) f, write_answer)
-
 -- what a writing leaves
 pub written : (ss : List Shape) (vs new : List ℕ) → AllSound ss → fits ss vs ≡ true → new ≡ row_shown ss vs
     → (new ≡ row_shown ss vs) × ((k : ℕ) → row_read k ss new ≡ Ok vs)

@@ -17,15 +17,6 @@ module _ {S K : Type 0} (step : S → List ℕ → Result S RowFault) (room : S 
     pub left : read_rows step width (rows - i) rest (i + 1) state ≡ read_rows step width rows bytes 1 start
     pub spare : room start ≤ room state + i
 
-  pub reached_none : (start : S) (i : ℕ) (rest : List ℕ) (kind : K) → i ≡ 0 → rest ≡ bytes → stands start kind → Reached start i rest kind
-  reached_none start i rest kind z all stood =
-      record {
-        state = start;
-        stood = stood;
-        left = rw (z, all) (ap (λ n. read_rows step width n bytes 1 start) (sub-zero rows));
-        spare = omega arith;
-      }
-
   module _ (start : S) (i : ℕ) (row rest rest' : List ℕ) (kind kind' : K) (h : i < rows) (size : length row ≡ width) (cut : rest ≡ row ++ rest')
       (st : Reached start i rest kind) where
     unrolled : read_rows step width rows bytes 1 start

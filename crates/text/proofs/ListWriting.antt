@@ -18,9 +18,6 @@ pub record RowsWritten (rs : List (Reply ℕ)) (old out : List ℕ) (i : ℕ) : 
   pub long : length (list_shown (take i rs)) ≡ 35 * i
   pub within : (k : ℕ) → k < i → fits list_row (numbers_of (get_or rs k blank)) ≡ true
 
-pub rows_none : (rs : List (Reply ℕ)) (old : List ℕ) → RowsWritten rs old old 0
-rows_none rs old = record { is = refl; long = refl; within = λ k h. absurd (omega arith) }
-
 pub rows_more : (rs : List (Reply ℕ)) (old out row : List ℕ) (i : ℕ) → i < length rs → length row ≡ 35 → row ≡ reply_shown (get_or rs i blank)
     → fits list_row (numbers_of (get_or rs i blank)) ≡ true → RowsWritten rs old out i → RowsWritten rs old (put_mid (35 * i) (35 * i + 35 - 35 * i) out row) (i + 1)
 rows_more rs old out row i h l e small st =
@@ -41,7 +38,7 @@ module _ (rs : List (Reply ℕ)) (old out : List ℕ) (i : ℕ) (h : i ≡ lengt
   long : length (list_shown rs) ≡ 35 * length rs
   long = sym (ap (λ t. length (list_shown t)) all) ∙ (st.long ∙ ap (λ n. 35 * n) h)
 
-  pub rows_all : out ≡ over (list_shown rs) old
+  rows_all : out ≡ over (list_shown rs) old
   rows_all =
       st.is ∙ (ap (λ t. list_shown t ++ drop (35 * i) old) all
       ∙ ap (λ n. list_shown rs ++ drop n old) (ap (λ n. 35 * n) h ∙ sym long))
@@ -57,7 +54,3 @@ module _ (rs : List (Reply ℕ)) (old out : List ℕ) (i : ℕ) (h : i ≡ lengt
         λ room fit. let b = list_back rs room f c.0 fit in (ap (λ x. list_answer x room) t ∙ b.0, ap (λ x. list_read x room) t ∙ b.1),
         λ bytes room m e is. (list_only bytes room m e).0 ∙ (ap list_shown is ∙ sym t),
       )
-
--- the answer where the list has room
-pub wrote : (rs : List (Reply ℕ)) (room : ℕ) (u : Unit {0}) → Ok u ≡ check_answer rs → 35 * length rs ≤ room → Ok (35 * length rs) ≡ list_write_answer rs room
-wrote rs room u e h = sym (rw (le-leb (35 * length rs) room h, in_room)) ∙ ap (in_room rs room) e
