@@ -1,13 +1,13 @@
 -- Reading inverts writing, and nothing else reads as a row: proved once, for every layout.
-use Rattle.std.proofs.Common.{◌≡◌, ℕ, ◌+◌, ◌≤◌, true, eqb, List, [], ◌∷◌, ◌++◌, length, take, drop, Ok, Err, Result, sym, refl, ap, ◌∙◌, subst, inl, inr, append_assoc, arith, length-append, length-take}
+use Rattle.std.proofs.Common.{◌≡◌, ℕ, ◌+◌, ◌≤◌, true, List, [], ◌∷◌, ◌++◌, length, take, drop, Ok, Err, Result, sym, refl, ap, ◌∙◌, subst, inl, inr, append_assoc, arith, length-append, length-take}
 use Rattle.std.proofs.lemmas.List.{take_at, drop_at, take-append-drop, length-take-le}
-use Rattle.std.proofs.lemmas.Bool.{cases_lt, cases_eq, eq-eqb, ne_eqb, and_from}
+use Rattle.std.proofs.lemmas.Bool.{cases_lt, cases_eq, ne_eqb}
 use Rattle.rows.specs.declared.field.FieldFault.{FieldFault}
 use Rattle.rows.specs.declared.fault.RowFault.{RowFault}
 use Rattle.rows.specs.declared.fault.RowFault.TheVariants.{Newline}
 use Rattle.rows.specs.Fields.{shown, field_read, FieldExact}
 use Rattle.rows.specs.Columns.{Shape, widths}
-use Rattle.rows.specs.Rows.{fields_shown, row_shown, Within, column_read, ended, before, on_field, row_read, RowExact, FirstFault, RowRefused, fits, write_answer}
+use Rattle.rows.specs.Rows.{fields_shown, row_shown, Within, column_read, ended, before, on_field, row_read, RowExact, FirstFault, RowRefused, fits}
 use Rattle.rows.proofs.Numerals.{length_shown_ge, field_exact, field_back}
 use Rattle.rows.proofs.Columns.{short_column, whole_column}
 use Rattle.rows.proofs.Fitting.{Sound, AllSound, small, digits_fit, fits_within}

@@ -1,6 +1,5 @@
 -- Reading a file row by row, for every kind of row: the turns of a reader's loop, and the answer at its end.
 use Rattle.std.proofs.Common.{◌≡◌, ℕ, suc, ◌+◌, ◌-◌, ◌*◌, ◌<◌, ◌≤◌, List, ◌++◌, length, take, drop, Some, None, Ok, Err, Option, Result, sym, refl, ap, ◌∙◌, mul-suc, arith}
-use native.Mathlib.Nat.{sub-zero}
 use Rattle.std.proofs.Math.Nat.{lt_of_mul-lt-mul_left}
 use Rattle.std.proofs.lemmas.List.{take_at, drop_at}
 use Rattle.rows.specs.declared.fault.Numbered.{Numbered}

@@ -1,13 +1,12 @@
 -- Writing a list row by row: the turns of the writer's loop, and what it leaves.
-use Rattle.std.proofs.Common.{◌≡◌, ℕ, ◌+◌, ◌-◌, ◌*◌, ◌<◌, ◌≤◌, true, List, [], ◌++◌, length, get_or, take, drop, Ok, sym, refl, ap, ◌∙◌, arith, length-append, below_more}
+use Rattle.std.proofs.Common.{◌≡◌, ℕ, ◌+◌, ◌-◌, ◌*◌, ◌<◌, ◌≤◌, true, List, [], ◌++◌, length, get_or, take, drop, Ok, sym, ap, ◌∙◌, arith, length-append, below_more}
 use borrow.Rule.Slice.PartMut.{put_mid}
 use Rattle.std.proofs.lemmas.List.{take_more, take_all, take_at, flat_map_more}
-use Rattle.std.proofs.lemmas.Bool.{le-leb}
 use Rattle.source.specs.declared.reply.Reply.{Reply}
 use Rattle.rows.specs.Columns.{list_row}
 use Rattle.rows.specs.Rows.{fits}
 use Rattle.text.specs.Lists.{numbers_of, reply_shown, list_shown, list_answer, list_read, over}
-use Rattle.text.specs.ListWriting.{check_answer, in_room, list_write_answer}
+use Rattle.text.specs.ListWriting.{check_answer}
 use Rattle.rows.proofs.RowWriting.{grow, part_written}
 use Rattle.text.proofs.ListFiles.{list_back, list_only}
 use Rattle.text.proofs.ListChecking.{blank, checked, list_fits}

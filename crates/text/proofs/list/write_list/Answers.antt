@@ -1,4 +1,4 @@
-use Rattle.std.proofs.Common.{◌*◌, length, ◌∙◌, arith}
+use Rattle.std.proofs.Common.{◌*◌, ◌∙◌, arith}
 use Rattle.rows.proofs.RowWriting.{part_length}
 use Rattle.text.proofs.ListChecking.{checked, each}
 use Rattle.text.proofs.ListWriting.{rows_more, rows_back}
