@@ -1,13 +1,13 @@
 -- Reading inverts writing, and nothing else reads as a row: proved once, for every layout.
-use Rattle.std.proofs.Common.{◌≡◌, ℕ, ◌+◌, ◌≤◌, true, eqb, List, [], ◌∷◌, ◌++◌, length, take, drop, Ok, Err, Result, sym, refl, ap, ◌∙◌, subst, inl, inr, append_assoc, arith, length-append, length-take}
+use Rattle.std.proofs.Common.{◌≡◌, ℕ, ◌+◌, ◌≤◌, true, List, [], ◌∷◌, ◌++◌, length, take, drop, Ok, Err, Result, sym, refl, ap, ◌∙◌, subst, inl, inr, append_assoc, arith, length-append, length-take}
 use Rattle.std.proofs.lemmas.List.{take_at, drop_at, take-append-drop, length-take-le}
-use Rattle.std.proofs.lemmas.Bool.{cases_lt, cases_eq, eq-eqb, ne_eqb, and_from}
+use Rattle.std.proofs.lemmas.Bool.{cases_lt, cases_eq, ne_eqb}
 use Rattle.rows.specs.declared.field.FieldFault.{FieldFault}
 use Rattle.rows.specs.declared.fault.RowFault.{RowFault}
 use Rattle.rows.specs.declared.fault.RowFault.TheVariants.{Newline}
 use Rattle.rows.specs.Fields.{shown, field_read, FieldExact}
 use Rattle.rows.specs.Columns.{Shape, widths}
-use Rattle.rows.specs.Rows.{fields_shown, row_shown, Within, column_read, ended, before, on_field, row_read, RowExact, FirstFault, RowRefused, fits, write_answer}
+use Rattle.rows.specs.Rows.{fields_shown, row_shown, Within, column_read, ended, before, on_field, row_read, RowExact, FirstFault, RowRefused, fits}
 use Rattle.rows.proofs.Numerals.{length_shown_ge, field_exact, field_back}
 use Rattle.rows.proofs.Columns.{short_column, whole_column}
 use Rattle.rows.proofs.Fitting.{Sound, AllSound, small, digits_fit, fits_within}
@@ -131,10 +131,6 @@ first_fault k (s ∷ ss) row f ok e =
 pub row_refused : (k : ℕ) (ss : List Shape) (row : List ℕ) (r : Result (List ℕ) RowFault) → AllSound ss → r ≡ row_read k ss row → RowRefused k ss row r
 row_refused k ss row (Ok vs) ok e = tt
 row_refused k ss row (Err f) ok e = first_fault k ss row f ok (sym e)
-
--- the answer of a writing
-pub writes : (ss : List Shape) (vs : List ℕ) (room : ℕ) → room ≡ widths ss + 1 → fits ss vs ≡ true → Ok tt ≡ write_answer ss vs room
-writes ss vs room e f = rw (and_from (eqb room (widths ss + 1)) (fits ss vs) (eq-eqb room (widths ss + 1) e) f, write_answer)
 
 -- what a writing leaves
 pub written : (ss : List Shape) (vs new : List ℕ) → AllSound ss → fits ss vs ≡ true → new ≡ row_shown ss vs

@@ -1,8 +1,8 @@
 -- Writing a field from its last byte to its first: the turns of the writer's loop.
-use Rattle.std.proofs.Common.{◌≡◌, ℕ, ◌+◌, ◌-◌, ◌/◌, ◌%◌, ◌^◌, ◌<◌, ◌≤◌, true, false, cond, ltb, List, [], ◌∷◌, ◌++◌, length, drop, set, replicate, decimal, sym, ap, ◌∙◌, subst, inl, inr, append_assoc, arith}
-use Rattle.std.proofs.lemmas.Fmt.{decimal_digit, decimal_step, decimal_nonempty}
+use Rattle.std.proofs.Common.{◌≡◌, ℕ, ◌+◌, ◌-◌, ◌/◌, ◌%◌, ◌^◌, ◌<◌, ◌≤◌, true, cond, ltb, List, [], ◌∷◌, ◌++◌, length, drop, set, replicate, decimal, sym, ap, ◌∙◌, subst, inl, inr, append_assoc, arith}
+use Rattle.std.proofs.lemmas.Fmt.{decimal_digit, decimal_step}
 use Rattle.std.proofs.lemmas.List.{replicate_more, length_push, drop-set, drop_all}
-use Rattle.std.proofs.lemmas.Bool.{cases_lt, lt-ltb, le-ltb}
+use Rattle.std.proofs.lemmas.Bool.{cases_lt, lt-ltb}
 use Rattle.rows.specs.Fields.{shown}
 
 -- the first i bytes, where the digits of v are still to be written: spaces alone once none are left
@@ -44,13 +44,6 @@ front_last i v small fits =
       | inr none ↦ let z : v ≡ 0 = omega arith in rw z (sym (replicate_more i 32))
     ]
 
-front_none : (v : ℕ) → v < 2 ^ 64 → (0 < v → length (decimal v) ≤ 0) → front 0 v ≡ []
-front_none v small fits =
-    elim (cases_lt 0 v) [
-      | inl some ↦ absurd (omega (arith, fits some, decimal_nonempty v small))
-      | inr none ↦ let t : ltb 0 v ≡ false = le-ltb 0 v none in rw t
-    ]
-
 -- the loop with i bytes to go: they will be the front of v, and with those written give the whole field
 pub record ShownFrom (whole out : List ℕ) (i v : ℕ) : Type 0 where
   pub is : front i v ++ drop i out ≡ whole
@@ -81,9 +74,3 @@ shown_more whole out i v x small some within byte st =
           ∙ (ap (λ t. t ++ drop (j + 1) out) (sym (front_last j v small fits)) ∙ was)));
       fits = λ h. front_shorter j v small (omega arith) (fits (omega arith));
     }
-
-pub shown_all : (whole out : List ℕ) (i v : ℕ) → v < 2 ^ 64 → i ≤ 0 → ShownFrom whole out i v → out ≡ whole
-shown_all whole out i v small none st =
-    let z : i ≡ 0 = omega arith in
-    let was : front 0 v ++ out ≡ whole = subst (λ n. front n v ++ drop n out ≡ whole) z st.is in
-    sym (ap (λ t. t ++ out) (front_none v small (λ h. omega (arith, st.fits h)))) ∙ was

@@ -1,6 +1,5 @@
 -- Reading a file row by row, for every kind of row: the turns of a reader's loop, and the answer at its end.
 use Rattle.std.proofs.Common.{◌≡◌, ℕ, suc, ◌+◌, ◌-◌, ◌*◌, ◌<◌, ◌≤◌, List, ◌++◌, length, take, drop, Some, None, Ok, Err, Option, Result, sym, refl, ap, ◌∙◌, mul-suc, arith}
-use native.Mathlib.Nat.{sub-zero}
 use Rattle.std.proofs.Math.Nat.{lt_of_mul-lt-mul_left}
 use Rattle.std.proofs.lemmas.List.{take_at, drop_at}
 use Rattle.rows.specs.declared.fault.Numbered.{Numbered}
@@ -16,15 +15,6 @@ module _ {S K : Type 0} (step : S → List ℕ → Result S RowFault) (room : S 
     pub stood : stands state kind
     pub left : read_rows step width (rows - i) rest (i + 1) state ≡ read_rows step width rows bytes 1 start
     pub spare : room start ≤ room state + i
-
-  pub reached_none : (start : S) (i : ℕ) (rest : List ℕ) (kind : K) → i ≡ 0 → rest ≡ bytes → stands start kind → Reached start i rest kind
-  reached_none start i rest kind z all stood =
-      record {
-        state = start;
-        stood = stood;
-        left = rw (z, all) (ap (λ n. read_rows step width n bytes 1 start) (sub-zero rows));
-        spare = omega arith;
-      }
 
   module _ (start : S) (i : ℕ) (row rest rest' : List ℕ) (kind kind' : K) (h : i < rows) (size : length row ≡ width) (cut : rest ≡ row ++ rest')
       (st : Reached start i rest kind) where

@@ -1,14 +1,13 @@
 -- Judging a list before it is written: the turns of the check, and what a list that passed it has.
-use Rattle.std.proofs.Common.{◌≡◌, ℕ, zero, suc, ◌+◌, ◌<◌, ◌≤◌, true, false, leb, List, [], ◌∷◌, ◌++◌, length, get_or, drop, Some, None, Ok, Err, Option, sym, refl, ap, ◌∙◌, inl, inr, arith}
-use Rattle.std.proofs.lemmas.List.{at_drop_more, at_drop_all}
-use Rattle.std.proofs.lemmas.Bool.{le-leb, leb-true, cases_Bool}
+use Rattle.std.proofs.Common.{◌≡◌, ℕ, zero, suc, ◌+◌, ◌<◌, ◌≤◌, true, false, leb, List, [], ◌∷◌, ◌++◌, length, get_or, Some, None, Ok, Err, Option, sym, refl, ap, ◌∙◌, inl, inr, arith}
+use Rattle.std.proofs.lemmas.Bool.{leb-true, cases_Bool}
 use Rattle.source.specs.declared.reply.Reply.{Reply}
 use Rattle.source.specs.Replies.{follows}
 use Rattle.source.specs.Beginnings.{follows_so}
 use Rattle.rows.specs.declared.fault.Numbered.{Numbered}
 use Rattle.rows.specs.declared.fault.RowFault.{RowFault}
 use Rattle.rows.specs.declared.fault.RowFault.TheVariants.{Order}
-use Rattle.text.specs.declared.fault.FileFault.TheVariants.{Row, Size}
+use Rattle.text.specs.declared.fault.FileFault.TheVariants.{Size}
 use Rattle.rows.specs.Columns.{list_row}
 use Rattle.rows.specs.Rows.{fits}
 use Rattle.text.specs.Lists.{numbers_of, last_asked}
@@ -25,21 +24,6 @@ passes k last r rs e = rw (e, unlawful)
 
 fails : (k last : ℕ) (r : Reply ℕ) (rs : List (Reply ℕ)) → follows last r ≡ false → unlawful k last (r ∷ rs) ≡ Some (record { number = k; fault = Order })
 fails k last r rs e = rw (e, unlawful)
-
--- the check at reply i
-module _ (rs : List (Reply ℕ)) (i last : ℕ) (inv : unlawful (i + 1) last (drop i rs) ≡ unlawful 1 0 rs) where
-  pub check_more : i < length rs → follows last (get_or rs i blank) ≡ true → unlawful (i + 1 + 1) (get_or rs i blank).asked (drop (i + 1) rs) ≡ unlawful 1 0 rs
-  check_more h e = sym (at_drop_more (unlawful (i + 1) last) rs i blank h ∙ passes (i + 1) last (get_or rs i blank) (drop (i + 1) rs) e) ∙ inv
-
-  judged : length rs ≤ 50000 → check_answer rs ≡ judged_by (unlawful 1 0 rs)
-  judged few = rw (le-leb (length rs) 50000 few, check_answer)
-
-  pub check_stops : length rs ≤ 50000 → i < length rs → follows last (get_or rs i blank) ≡ false → Err (Row (record { number = i + 1; fault = Order })) ≡ check_answer rs
-  check_stops few h e =
-      sym (judged few ∙ ap judged_by (sym inv ∙ (at_drop_more (unlawful (i + 1) last) rs i blank h ∙ fails (i + 1) last (get_or rs i blank) (drop (i + 1) rs) e)))
-
-  pub check_all : length rs ≤ 50000 → length rs ≤ i → Ok tt ≡ check_answer rs
-  check_all few h = sym (judged few ∙ ap judged_by (sym inv ∙ at_drop_all (unlawful (i + 1) last) rs i h))
 
 -- a list that passed
 pub checked : (rs : List (Reply ℕ)) (u : Unit {0}) → Ok u ≡ check_answer rs → (length rs ≤ 50000) × (unlawful 1 0 rs ≡ None)

@@ -1,13 +1,12 @@
 -- Writing a list row by row: the turns of the writer's loop, and what it leaves.
-use Rattle.std.proofs.Common.{◌≡◌, ℕ, ◌+◌, ◌-◌, ◌*◌, ◌<◌, ◌≤◌, true, List, [], ◌++◌, length, get_or, take, drop, Ok, sym, refl, ap, ◌∙◌, arith, length-append, below_more}
+use Rattle.std.proofs.Common.{◌≡◌, ℕ, ◌+◌, ◌-◌, ◌*◌, ◌<◌, ◌≤◌, true, List, [], ◌++◌, length, get_or, take, drop, Ok, sym, ap, ◌∙◌, arith, length-append, below_more}
 use borrow.Rule.Slice.PartMut.{put_mid}
 use Rattle.std.proofs.lemmas.List.{take_more, take_all, take_at, flat_map_more}
-use Rattle.std.proofs.lemmas.Bool.{le-leb}
 use Rattle.source.specs.declared.reply.Reply.{Reply}
 use Rattle.rows.specs.Columns.{list_row}
 use Rattle.rows.specs.Rows.{fits}
 use Rattle.text.specs.Lists.{numbers_of, reply_shown, list_shown, list_answer, list_read, over}
-use Rattle.text.specs.ListWriting.{check_answer, in_room, list_write_answer}
+use Rattle.text.specs.ListWriting.{check_answer}
 use Rattle.rows.proofs.RowWriting.{grow, part_written}
 use Rattle.text.proofs.ListFiles.{list_back, list_only}
 use Rattle.text.proofs.ListChecking.{blank, checked, list_fits}
@@ -17,9 +16,6 @@ pub record RowsWritten (rs : List (Reply ℕ)) (old out : List ℕ) (i : ℕ) : 
   pub is : out ≡ list_shown (take i rs) ++ drop (35 * i) old
   pub long : length (list_shown (take i rs)) ≡ 35 * i
   pub within : (k : ℕ) → k < i → fits list_row (numbers_of (get_or rs k blank)) ≡ true
-
-pub rows_none : (rs : List (Reply ℕ)) (old : List ℕ) → RowsWritten rs old old 0
-rows_none rs old = record { is = refl; long = refl; within = λ k h. absurd (omega arith) }
 
 pub rows_more : (rs : List (Reply ℕ)) (old out row : List ℕ) (i : ℕ) → i < length rs → length row ≡ 35 → row ≡ reply_shown (get_or rs i blank)
     → fits list_row (numbers_of (get_or rs i blank)) ≡ true → RowsWritten rs old out i → RowsWritten rs old (put_mid (35 * i) (35 * i + 35 - 35 * i) out row) (i + 1)
@@ -41,7 +37,7 @@ module _ (rs : List (Reply ℕ)) (old out : List ℕ) (i : ℕ) (h : i ≡ lengt
   long : length (list_shown rs) ≡ 35 * length rs
   long = sym (ap (λ t. length (list_shown t)) all) ∙ (st.long ∙ ap (λ n. 35 * n) h)
 
-  pub rows_all : out ≡ over (list_shown rs) old
+  rows_all : out ≡ over (list_shown rs) old
   rows_all =
       st.is ∙ (ap (λ t. list_shown t ++ drop (35 * i) old) all
       ∙ ap (λ n. list_shown rs ++ drop n old) (ap (λ n. 35 * n) h ∙ sym long))
@@ -57,7 +53,3 @@ module _ (rs : List (Reply ℕ)) (old out : List ℕ) (i : ℕ) (h : i ≡ lengt
         λ room fit. let b = list_back rs room f c.0 fit in (ap (λ x. list_answer x room) t ∙ b.0, ap (λ x. list_read x room) t ∙ b.1),
         λ bytes room m e is. (list_only bytes room m e).0 ∙ (ap list_shown is ∙ sym t),
       )
-
--- the answer where the list has room
-pub wrote : (rs : List (Reply ℕ)) (room : ℕ) (u : Unit {0}) → Ok u ≡ check_answer rs → 35 * length rs ≤ room → Ok (35 * length rs) ≡ list_write_answer rs room
-wrote rs room u e h = sym (rw (le-leb (35 * length rs) room h, in_room)) ∙ ap (in_room rs room) e

@@ -2,7 +2,7 @@ use Rattle.std.proofs.Common.{◌≡◌, ◌+◌, ◌-◌, ◌/◌, ◌%◌, ◌
 use Rattle.std.proofs.lemmas.Fmt.{decimal_nonempty}
 use Rattle.std.proofs.lemmas.Bool.{lt-ltb, le-ltb}
 use Rattle.rows.specs.Fields.{shown}
-use Rattle.rows.proofs.Shows.{last_byte, ShownFrom, shown_begun, shown_more, shown_all}
+use Rattle.rows.proofs.Shows.{last_byte, ShownFrom, shown_begun, shown_more}
 use Rattle.rows.proofs.field.write_field.Goals as goal
 use Rattle.rows.proofs.field.write_field.Goals.{then-left-gt0, else-left-gt0}
 
@@ -26,6 +26,3 @@ loop-i-preserved c =
       simp length-set (omega arith),
       omega arith,
     )
-
-pub returns : goal.returns
-returns c = shown_all _ c.loop-i.out c.loop-i.i c.loop-i.left (omega arith) c.loop-i-test.false c.loop-i.invariant.0 ∙ simp length-set

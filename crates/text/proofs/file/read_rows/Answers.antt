@@ -1,18 +1,9 @@
 use Rattle.std.proofs.Common.{◌≡◌, ℕ, ◌+◌, ◌*◌, ◌<◌, ◌≤◌, length, Err, sym, ap, ◌∙◌, arith, length-append}
-use Rattle.std.proofs.lemmas.Grind.{common_steps}
 use Rattle.std.proofs.lemmas.Result.{err_from_is_err_and}
 use Rattle.text.specs.declared.fault.FileFault.TheVariants.{Row}
 use Rattle.rows.proofs.Layers.{numbered_ok, numbered_err}
-use Rattle.text.proofs.FileReading.{reached_none, reached_more, reached_stops, reached_all, row_is_left, no_row_is_left}
+use Rattle.text.proofs.FileReading.{reached_more, reached_stops, reached_all, row_is_left, no_row_is_left}
 use Rattle.text.proofs.file.read_rows.Goals as goal
-
-pub loop-i-init : goal.loop-i-init
-loop-i-init g c =
-    record {
-      size = grind (arith, common_steps);
-      left = grind (arith, common_steps);
-      reached = λ s stood. reached_none _ _ _ _ _ _ s _ _ _ (grind (arith, common_steps)) (grind (arith, common_steps)) stood;
-    }
 
 -- a row that comes is one of the file's
 row_comes : (size count width rows left next row : ℕ) → size ≡ width → width * count + left ≡ width * rows → left ≡ row + next → row ≡ size → 1 ≤ width → count < rows

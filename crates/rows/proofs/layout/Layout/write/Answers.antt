@@ -1,14 +1,10 @@
-use Rattle.std.proofs.Common.{length, sym, ◌∙◌}
+use Rattle.std.proofs.Common.{sym}
 use Rattle.rows.specs.Columns.{shapes}
 use Rattle.rows.proofs.Fitting.{sound}
-use Rattle.rows.proofs.RowLaws.{writes, written}
+use Rattle.rows.proofs.RowLaws.{written}
 use Rattle.rows.proofs.layout.Layout.write.Goals as goal
 
-pub returns : goal.returns
-returns g c =
+pub returns-clause-after : goal.returns-clause-after
+returns-clause-after g c =
     let t = c.args.self.now in
-    let f = sym c.if-not-fits.ensures in
-    record {
-      value = writes (shapes t.columns) c.args.values.now (length c.args.out.now) (c.if-out-self.false ∙ t.whole) f;
-      after = written (shapes t.columns) c.args.values.now c.write_fields.new.out (sound t.columns) f c.write_fields.ensures;
-    }
+    written (shapes t.columns) c.args.values.now c.write_fields.new.out (sound t.columns) (sym c.if-not-fits.ensures) c.write_fields.ensures
