@@ -158,14 +158,10 @@ fn the_first_row_whose_class_has_no_step_is_refusal_12(rt: HostRuntime) {
 
 // Replies of these classes; their bodies hold nothing.
 fn of_classes(classes: [u8; 3]) -> [Reply<()>; 3] {
-    let mut replies = [Reply {
+    classes.map(|class| Reply {
         asked: 0,
-        class: 0,
+        class,
         ready: 0,
         body: (),
-    }; 3];
-    for i in 0..3 {
-        replies[i].class = classes[i];
-    }
-    replies
+    })
 }
