@@ -40,14 +40,7 @@ fn fill<S: Source, P: Pace, R: Penalty>(
             Ok(release) => release,
             Err(end) => return Some(end),
         };
-        let reply = release.reply;
-        let row = PageRow {
-            asked: reply.asked,
-            class: reply.class,
-            release: reply.ready,
-            misses: release.misses,
-        };
-        let Ok(()) = page.row(buf, row) else {
+        let Ok(()) = page.row(buf, PageRow::from(release)) else {
             unreachable()
         };
     }

@@ -2,6 +2,7 @@
 ghost use Rattle.std.specs.Prelude.{◌≡◌, [], ◌∷◌};
 ghost use Rattle.tally.specs.Refusals.{page_fault_code};
 
+use promise::release::Release;
 use source::refusal::{Code, Refused};
 
 // A page holds at most this many rows; its foot is extra.
@@ -17,6 +18,20 @@ pub struct PageRow {
     pub class: u8,
     pub release: u32,
     pub misses: u32,
+}
+
+// The row of a reply that is released, ready at its release tick.
+impl<B: Copy> From<Release<B>> for PageRow {
+    ghost from_gives = { λ x r. r ≡ record { asked = x.reply.asked; «class» = x.reply.«class»; release = x.reply.ready; misses = x.misses } };
+
+    fn from(released: Release<B>) -> PageRow {
+        PageRow {
+            asked: released.reply.asked,
+            class: released.reply.class,
+            release: released.reply.ready,
+            misses: released.misses,
+        }
+    }
 }
 
 impl PageRow {

@@ -30,18 +30,18 @@ pub trait RowTaker {
 
 // The rows of a file of `size` bytes: a whole number of them, and no more than `most`.
 pub fn count_rows(size: usize, width: usize, most: usize) -> Result<usize, FileFault>
-    requires { 1 ≤ width }
     ensures value { result ≡ row_count width most size }
     ensures within { IfOk result (λ n. (width * n ≡ size) × (n ≤ most)) }
 {
-    let rows = size / width;
-    if size % width != 0 || rows > most {
+    let rows = size.checked_div(width).unwrap_or(0);
+    if width * rows != size || rows > most {
         return Err(FileFault::Size);
     }
     Ok(rows)
 }
 
-// Reads so many rows of a width one after another, up to the first that is refused.
+// Reads so many rows of a width one after another, up to the first that is refused. The readers of files call it, after
+// they judged the size and the room.
 pub fn read_rows<T: RowTaker>(
     bytes: &[u8],
     rows: usize,

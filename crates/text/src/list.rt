@@ -22,7 +22,7 @@ fn read_reply(row: &[u8], last: u32) -> Result<Reply<u32>, RowFault>
     ensures { result ≡ reply_read last row.now }
 {
     let [asked, class, ready, word] = LIST_ROW.read(row)?;
-    if asked < last as u64 || ready < asked {
+    if asked < u64::from(last) || ready < asked {
         return Err(RowFault::Order);
     }
     Ok(Reply {
@@ -119,10 +119,10 @@ fn write_reply(reply: Reply<u32>, row: &mut [u8])
 {
     let _ = LIST_ROW.write(
         &[
-            reply.asked as u64,
-            reply.class as u64,
-            reply.ready as u64,
-            reply.body as u64,
+            u64::from(reply.asked),
+            u64::from(reply.class),
+            u64::from(reply.ready),
+            u64::from(reply.body),
         ],
         row,
     );

@@ -1,4 +1,4 @@
-use Rattle.std.proofs.Common.{◌≡◌, ◌<◌, ◌≤◌, false, length, Ok, sym, ap, ◌∙◌, subst, arith}
+use Rattle.std.proofs.Common.{◌≡◌, ◌+◌, ◌<◌, ◌≤◌, false, length, Ok, sym, ap, ◌∙◌, subst, arith}
 use lib.ListN.{length-map}
 use Rattle.gate.specs.declared.Gate.{Gate}
 use Rattle.promise.specs.declared.release.Release.{Release}
@@ -6,9 +6,10 @@ use Rattle.gate.specs.declared.row.Row.{Row}
 use Rattle.promise.specs.Rules.{Rules}
 use Rattle.promise.specs.Views.{all, release, answer, next, Timely}
 use Rattle.gate.specs.Gates.{view_of, rules_in}
-use Rattle.tally.specs.Tallies.{roomy}
+use Rattle.tally.specs.Tallies.{roomy, taken, row_answer}
+use Rattle.page.specs.Pages.{row_bytes, lined}
 use Rattle.gate.proofs.Rows.{all_few}
-use Rattle.driver.specs.Replays.{Stops}
+use Rattle.driver.specs.Replays.{row_of, Stops}
 use Rattle.driver.proofs.Driving.{accepted, driven_more, stopped}
 use Rattle.driver.proofs.replay.fill.Given as given
 use Rattle.driver.proofs.replay.fill.Goals as goal
@@ -42,10 +43,12 @@ loop-gate-preserved g c =
     let x = c.in-Ok.release in
     let e = c.in-Ok.ensures in
     let k = turn g m c.loop-gate.gate c.release.new.self x i.0 e.value e.call.1 e.timely in
-    let r = c.in-Ok-row.ensures.after in (
+    let r = c.in-Ok-row.ensures.after in
+    let t = c.loop-gate.page.account.tally in
+    let row : c.from.result ≡ row_of x = c.from.ensures in (
       e.same ∙ i.0,
       driven_more m _ _ _ _ c.loop-gate.page.account.tally _ c.loop-gate.buf x i.1 k.out k.is k.inside
-          c.row.new.self.account.tally c.row.new.buf r.0 r.1 c.row.auto.buf (sym c.loop-gate-test.ensures),
+          c.row.new.self.account.tally c.row.new.buf (r.0 ∙ ap (taken t) row) (r.1 ∙ ap (λ y. lined t.rows (row_bytes (t.rows + 1) y) c.loop-gate.buf) row) c.row.auto.buf (sym c.loop-gate-test.ensures),
     )
 
 pub unreachable-requires : goal.unreachable-requires
@@ -55,8 +58,9 @@ unreachable-requires g c =
     let x = c.in-Ok.release in
     let e = c.in-Ok.ensures in
     let k = turn g m c.loop-gate.gate c.release.new.self x i.0 e.value e.call.1 e.timely in
+    let row : c.from.result ≡ row_of x = c.from.ensures in
     c.in_default.not-Ok tt
-    (c.row.ensures.value
+    (c.row.ensures.value ∙ ap (λ y. row_answer c.loop-gate.page.account.tally y (length c.loop-gate.buf)) row
     ∙ accepted m _ _ _ _ c.loop-gate.page.account.tally _ c.loop-gate.buf x i.1 k.out k.is k.inside e.timely k.few (sym c.loop-gate-test.ensures))
 
 pub returns : goal.returns
