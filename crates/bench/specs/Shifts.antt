@@ -1,21 +1,32 @@
 -- Shifts: the answer for one job, and the plan read from a place on.
-use Rattle.std.specs.Prelude.{◌≡◌, ℕ, ◌+◌, ◌<◌, ◌≤◌, true, ◌⊎◌, List, [], ◌∷◌, length, take, drop, IfOk, Some, None, Ok, Err, Option, Result, nat_le, refl}
+use Rattle.std.specs.Prelude.{◌≡◌, ℕ, ◌+◌, ◌<◌, ◌≤◌, true, ◌⊎◌, List, [], ◌∷◌, length, take, drop, IfOk, Some, None, Ok, Err, Option, Result, nat_le, refl, zero, suc, max, slice_index, slice_set}
 use Rattle.std.proofs.Common.{sym, ◌∙◌, ap, inl, inr, arith, length-take, length-drop}
 use Rattle.std.specs.List.{slice_get}
 use Rattle.std.specs.Option.{ok_or}
-use Rattle.std.proofs.lemmas.List.{drop-drop}
-use Rattle.std.proofs.lemmas.Bool.{and_parts, cases_Bool, both_ways, leb-true, leb-false, le-leb}
+use Rattle.std.proofs.lemmas.List.{drop-drop, get_or-take}
+use Rattle.std.proofs.lemmas.Bool.{and_parts, cases_Bool, both_ways, leb-true, leb-false, le-leb, lt-leb}
 use Rattle.source.specs.declared.reply.End.{End}
 use Rattle.source.specs.declared.reply.End.TheVariants.{Dry, Horizon}
 use Rattle.bench.specs.declared.Job.{Job}
 use Rattle.bench.specs.declared.Shift.{Shift}
 use Rattle.bench.specs.declared.Bench.{Bench}
-use Rattle.bench.specs.Benches.{free_of, InRange, job_follows, shift_of, shift_answer, freed, plan, plan_mark, first_shift, shifts, shifts_mark, NextOf}
+use Rattle.bench.specs.Benches.{free_of, InRange, job_follows, shift_of, shift_answer, freed, plan, plan_mark, first_shift, shifts, shifts_mark, NextOf, earliest, worked}
 use Rattle.source.specs.Places.{drop_some, drop_none}
+use Rattle.bench.specs.declared.Servers.{Servers}
 
 pub cases_result : {X Y : Type 0} (r : Result X Y) → ((x : X) × (r ≡ Ok x)) ⊎ ((y : Y) × (r ≡ Err y))
 cases_result (Ok x) = inl (x, refl)
 cases_result (Err y) = inr (y, refl)
+
+pub take_set : {A : Type 0} (n : ℕ) (l : List A) (i : ℕ) (a : A) → take n (slice_set l i a) ≡ slice_set (take n l) i a
+take_set zero l i a = refl
+take_set (suc n) [] i a = refl
+take_set (suc n) (x ∷ xs) zero a = refl
+take_set (suc n) (x ∷ xs) (suc i) a = ap (λ l. x ∷ l) (take_set n xs i a)
+
+-- a start that was worked out from the servers' own array
+pub kept_start : (s : Servers) (server asked start : ℕ) → server < s.number.count → start ≡ max asked (slice_index s.free server) → start ≡ max asked (slice_index (free_of s) server)
+kept_start s server asked start known from = from ∙ ap (max asked) (sym (get_or-take s.number.count s.free server 0 known))
 
 module _ {B : Type 0} where
   pub job_in_range : (last : ℕ) (j : Job B) → job_follows last j ≡ true → InRange last j
@@ -29,6 +40,20 @@ module _ {B : Type 0} where
         known = leb-true j.«class» 7 s.0;
         little = leb-true j.work 1000000 s.1;
       }
+
+  -- the answer for a job that follows
+  module _ (last : ℕ) (free : List ℕ) (j : Job B) (ok : job_follows last j ≡ true) (server start : ℕ) (first : server ≡ earliest free) (from : start ≡ max j.asked (slice_index free server)) where
+    its_shift : worked j server start ≡ shift_of free j
+    its_shift = ap (worked j server) from ∙ ap (λ s. worked j s (max j.asked (slice_index free s))) first
+
+    its_ready : start + j.work ≡ (shift_of free j).reply.ready
+    its_ready = ap (λ x. x.reply.ready) its_shift
+
+    pub shift_taken : start + j.work ≤ 1000000000 → Ok (worked j server start) ≡ shift_answer last free j
+    shift_taken h = ap Ok its_shift ∙ rw (ok, le-leb (shift_of free j).reply.ready 1000000000 (omega (arith, its_ready)), shift_answer) refl
+
+    pub shift_late : 1000000000 < start + j.work → Err Horizon ≡ shift_answer last free j
+    shift_late h = rw (ok, lt-leb (shift_of free j).reply.ready 1000000000 (omega (arith, its_ready)), shift_answer) refl
 
   -- a job whose shift is not taken
   pub in_range_follows : (last : ℕ) (j : Job B) → InRange last j → job_follows last j ≡ true

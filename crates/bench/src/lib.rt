@@ -37,7 +37,8 @@ impl<B> Job<B> {
     }
 }
 
-// How many servers there are, and the tick at which each of them is free.
+// How many servers there are, and the tick at which each of them is free: four ticks by value, of which the first
+// `number` count.
 #[derive(Clone, Copy)]
 struct Servers {
     number: ServerCount,

@@ -7,7 +7,8 @@ use source::fault::OutOfRange;
 // The most servers that a bench has.
 pub const MOST_SERVERS: usize = 4;
 
-// The number of a bench's servers, from 1 to 4.
+// The number of a bench's servers, from 1 to 4. It counts places of an array, so it is a `usize` and no `Setting`:
+// a narrower number would ask more of a host.
 #[derive(Clone, Copy)]
 pub struct ServerCount {
     pub(crate) count: usize,

@@ -6,7 +6,6 @@ use Rattle.source.specs.declared.reply.Reply.{Reply}
 use Rattle.pace.specs.declared.fault.StepFault.{StepFault}
 use Rattle.pace.specs.Steps.{has_step, no_steps}
 use Rattle.rows.specs.declared.field.FieldFault.{FieldFault}
-use Rattle.rows.specs.declared.field.FieldFault.TheVariants.{Form, Limit}
 use Rattle.rows.specs.declared.fault.Numbered.{Numbered}
 use Rattle.rows.specs.declared.fault.RowFault.{RowFault}
 use Rattle.rows.specs.declared.fault.RowFault.TheVariants.{Field, Newline, Order, Step}

@@ -31,6 +31,7 @@ pub enum JobFault {
     Page(PageFault),
 }
 
+// Written out, as are those below, so that contracts know which fault `?` makes.
 impl From<NoStep> for JobFault {
     ghost from_gives = { λ f r. r ≡ Pair f };
 

@@ -29,7 +29,8 @@ impl Pending {
         self.ready <= tick
     }
 
-    // After a prediction was missed: one miss more, and that prediction is the new base.
+    // After a prediction was missed: one miss more, and that prediction is the new base. It is built whole, since a
+    // struct with facts in its type cannot be written by what differs.
     fn missed(&self, tick: u32) -> Pending
         requires few { self.now.all + 1 < 2 ^ 32 }
         requires within { tick ≤ 1000000000 }

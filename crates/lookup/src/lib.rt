@@ -8,7 +8,7 @@ ghost use Rattle.source.specs.declared.refusal.Code.TheVariants as code;
 use source::refusal::{Code, Refused};
 use tally::line::PageRow;
 
-// No row was released there.
+// No row was released there, which is all that these calls can refuse.
 #[derive(Clone, Copy, PartialEq, Eq, Debug)]
 pub struct NoRow;
 

@@ -1,11 +1,16 @@
 -- The waits of a ladder: where they come from, and that a sound ladder's keep the laws of a pace.
 use Rattle.std.specs.Prelude.{◌≡◌, ℕ, ◌-◌, ◌*◌, ◌^◌, ◌<◌, ◌≤◌, min, List, [], ◌∷◌, length, slice_index, refl}
-use Rattle.std.proofs.Common.{inl, inr, arith}
+use Rattle.std.proofs.Common.{inl, inr, arith, sym, ◌∙◌, ap}
 use Rattle.std.proofs.lemmas.Bool.{cases_lt, le-leb, lt-leb}
 use Rattle.pace.specs.Laws.{forever}
-use Rattle.pace.specs.Steps.{doubled, steps_quantum, steps_wait}
+use Rattle.pace.specs.Steps.{doubled, steps_quantum, steps_wait, ladder_of}
 use Rattle.pace.specs.Doublings.{doubled_keeps}
-use Rattle.pace.specs.Ladders.{Sound}
+use Rattle.pace.specs.Ladders.{Sound, ladder_length, ladder_at}
+use Rattle.pace.specs.declared.ladder.ClassSteps.{ClassSteps}
+
+pub quantum_first : (ps : List ℕ) → 0 < length ps → slice_index ps 0 ≡ steps_quantum ps
+quantum_first [] h = absurd (omega arith)
+quantum_first (p ∷ ps) h = refl
 
 pub wait_at : (ps : List ℕ) (e : ℕ) → e < length ps → slice_index ps e ≡ steps_wait ps e
 wait_at [] e h = absurd (omega arith)
@@ -17,6 +22,18 @@ wait_past (p ∷ ps) e h le =
     let more : length ps < e = omega arith in
     let n : length (p ∷ ps) - 1 ≡ length ps = omega arith in
     rw (n, lt-leb e (length ps) more, steps_wait) refl
+
+-- the same, by the steps as the class keeps them
+module _ (s : ClassSteps) (e : ℕ) where
+  pub kept_wait_at : e < s.count → slice_index s.waits e ≡ steps_wait (ladder_of s) e
+  kept_wait_at h = sym (ladder_at s e h) ∙ wait_at (ladder_of s) e (omega (arith, ladder_length s))
+
+  pub kept_wait_past : 0 < s.count → s.count ≤ e → doubled (slice_index s.waits (s.count - 1)) (e - (s.count - 1)) ≡ steps_wait (ladder_of s) e
+  kept_wait_past some h =
+      let n = ladder_length s in
+      let last : s.count - 1 < s.count = omega arith in
+      ap (λ w. doubled w (e - (s.count - 1))) (sym (ladder_at s (s.count - 1) last))
+      ∙ (ap (λ k. doubled (slice_index (ladder_of s) (k - 1)) (e - (k - 1))) (sym n) ∙ wait_past (ladder_of s) e (omega arith) (omega arith))
 
 module _ (ps : List ℕ) (s : Sound ps) (some : 0 < length ps) where
   step_low : (e : ℕ) → min (slice_index ps 0 * 2 ^ e) forever ≤ steps_wait ps e

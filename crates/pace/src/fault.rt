@@ -15,6 +15,7 @@ pub enum QuantumFault {
     Range,
 }
 
+// Written out, as are those below, so that contracts know which fault `?` makes.
 impl From<UnknownClass> for QuantumFault {
     ghost from_gives = { λ u r. r ≡ quantum.Class u };
 

@@ -5,7 +5,7 @@ ghost use Rattle.std.specs.Prelude.{◌≡◌, ℕ, ◌*◌, ◌^◌, ◌<◌, �
 pub(crate) const MOST_STEPS: u32 = 16;
 
 // The first `count` waits are the steps: the first is a quantum, each one at least the quantum doubled as often as
-// its place says, and none passes the horizon.
+// its place says, and none passes the horizon. An array and a count: there is no heap, and steps are copied.
 #[derive(Clone, Copy)]
 pub struct ClassSteps {
     pub(crate) count: u32,

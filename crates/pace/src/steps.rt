@@ -130,7 +130,7 @@ impl Steps {
         self.of_class(class).is_ok_and(|steps| steps.count > 0)
     }
 
-    // The steps of a class.
+    // The steps of a class, as the doubling pace has its own of a quantum.
     fn of_class(&self, class: u8) -> Result<&ClassSteps, UnknownClass>
         ensures { elim result [ Ok s ↦ («class» ≤ 7) × (ladder_of s.now ≡ ladder (ladders_of self.now) «class») | Err _ ↦ 7 < «class» ] }
     {

@@ -89,13 +89,7 @@ fn a_page_without_rows_is_its_foot(rt: HostRuntime) -> Result<(), Fail> {
         read_page(foot, Opening::new(5)?, &every_class(10)?, &mut []),
         Ok(0)
     );
-    refuses(
-        &rt,
-        foot,
-        6,
-        10,
-        [5, 1, 0],
-    )
+    refuses(&rt, foot, 6, 10, [5, 1, 0])
 }
 
 // The worked page with one byte changed is refused.

@@ -10,7 +10,8 @@ use pace::{Pace, Penalty};
 use promise::event::{Event, Request};
 use source::Source;
 
-// Makes the call that is asked for, and gives it with its answer.
+// Makes the call that is asked for, and gives it with its answer. Calls are data, to be compared and reported, so they
+// are matched and are no closures.
 fn ask<S: Source, P: Pace, R: Penalty>(gate: &mut Gate<S, P, R>, request: Request) -> Event<S::Body>
     ensures call { GateCall S.Source P.Pace R.Penalty gate.old result gate.new }
     ensures asked { asked result ≡ request }
@@ -37,6 +38,7 @@ pub fn play<S: Source, P: Pace, R: Penalty>(
     ensures same { rules_in P.Pace R.Penalty gate.new ≡ rules_in P.Pace R.Penalty gate.old }
 {
     let count = requests.len().min(events.len());
+    // Reported by place: nothing is known of what a loop over `iter_mut` beside another iterator wrote.
     for (i, request) in requests[..count].iter().enumerate() {
         events[i] = ask(gate, *request);
     }

@@ -139,7 +139,7 @@ fn read_lines(
     read_rows(&bytes[..LINE * rows], rows, LINE, &mut page)
 }
 
-// The account of rows that a page took.
+// The account of rows that a page took. The foot of a page that is read comes from a loop over its rows.
 fn account_of(rows: &[PageRow], opening: Opening) -> Account
     requires fits { Fits (begun opening.value) rows.now }
     requires few { length rows.now ≤ 50000 }

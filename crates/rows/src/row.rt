@@ -60,6 +60,7 @@ impl<const N: usize> Layout<N> {
         requires within { fits (shapes self.now.columns) values.now ≡ true }
         ensures { out.new ≡ row_shown (shapes self.now.columns) values.now }
     {
+        // Written by place: a proof does not follow a mutable slice that is cut in a loop.
         let mut at = 0;
         for (column, value) in self.columns.iter().zip(values) {
             let next = at + column.width;

@@ -11,7 +11,7 @@ use Rattle.source.specs.declared.reply.End.{End}
 use Rattle.source.specs.declared.reply.End.TheVariants.{Dry}
 use Rattle.source.specs.declared.trace.Trace.{Trace}
 use Rattle.source.specs.Replies.{Follows, LawfulFrom, Lawful, first, follows, beginning, LongestLawful}
-use Rattle.source.specs.Traces.{shown, NextOf}
+use Rattle.source.specs.Traces.{shown, NextOf, Next}
 use Rattle.source.specs.Places.{drop_some, drop_none}
 
 module _ {B : Type 0} where
@@ -65,7 +65,18 @@ module _ {B : Type 0} where
         longest = λ us vs e l. subst (λ m. length us ≤ length (beginning 0 m)) (sym e) (beginning_longest 0 us vs l);
       }
 
-  -- what stands at the place that is read next, kept if it follows
+  -- what stands at the place that is read next
+  module _ (rs : List (Reply B)) (k last : ℕ) (e : End) where
+    pub head_lawful : (r : Reply B) → slice_get rs k ≡ Some r → follows last r ≡ true → Ok r ≡ first (beginning last (drop k rs)) e
+    head_lawful r at ok = rw (drop_some rs k r at, begins last r (drop (k + 1) rs) ok) refl
+
+    pub head_unlawful : (r : Reply B) → slice_get rs k ≡ Some r → follows last r ≡ false → Err e ≡ first (beginning last (drop k rs)) e
+    head_unlawful r at bad = rw (drop_some rs k r at, stops last r (drop (k + 1) rs) bad) refl
+
+    pub head_none : slice_get rs k ≡ None → Err e ≡ first (beginning last (drop k rs)) e
+    head_none at = rw (drop_none rs k at) refl
+
+  -- the same, kept if it follows
   abbrev pub kept : Option (Reply B) → ℕ → Option (Reply B)
   kept None last = None
   kept (Some r) last = then_some (follows last r) r
@@ -115,6 +126,9 @@ module _ {B : Type 0} where
         inside = omega (arith, simp length-drop at n, length-take 50000 held);
         others = ap (beginning t.last) here ∙ begins t.last r (drop (t.taken + 1) rs) p.1;
       }
+
+  pub next_is : {R : Type 0} (held : List (Reply B)) (t : Trace R) (r : Reply B) → Ok r ≡ first (shown held t) Dry → Next held t r
+  next_is held t r h = next_of held t (Ok r) h
 
   -- a list that may follow some reply may stand alone
   pub lawful_alone : (last : ℕ) (rs : List (Reply B)) → LawfulFrom last rs → Lawful rs

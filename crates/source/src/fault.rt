@@ -1,4 +1,4 @@
-// What a checked setting or class refuses.
+// What a checked setting or class refuses. Each is a type of its own, as it is all that its calls can refuse.
 ghost use Rattle.source.specs.declared.refusal.Code.TheVariants as code;
 
 use super::refusal::{Code, Refused};

@@ -16,7 +16,7 @@ pub struct Setting<const LOW: u32, const HIGH: u32> {
 }
 
 impl<const LOW: u32, const HIGH: u32> Setting<LOW, HIGH> {
-    // The number as a setting, if it is in range.
+    // The number as a setting, if it is in range. It is no `TryFrom`, so that a literal can be handed to it.
     pub fn new(value: u32) -> Result<Setting<LOW, HIGH>, OutOfRange>
         ensures { elim result [ Ok s ↦ Ok s.value | Err e ↦ Err e ] ≡ checked LOW HIGH value }
     {

@@ -12,7 +12,8 @@ use super::reply::{End, Reply};
 // A trace reads no further than this many records.
 pub const MOST_RECORDS: usize = 50_000;
 
-// The records, how many were taken, and the asked tick of the last one taken.
+// The records, how many were taken, and the asked tick of the last one taken. A bench has the same of its jobs, and
+// differs in all that it makes of them; the buffer is a type parameter, since a host's need be no slice.
 #[derive(Drop)]
 pub struct Trace<R> {
     records: R,

@@ -1,5 +1,5 @@
 -- Refusals: which one each fault is, with the row and the field that it names. Nothing is assumed.
---   numbers_of        what is printed of a refusal: its number, its row and its field, 0 where it names none
+--   printed_numbers   what is printed of a refusal: its number, its row and its field, 0 where it names none
 --   refusal_of        the refusal of a file's fault; 8 is of no file, as a class above 7 is past its field's limit
 --   list_refusal      the refusal of a list that was not written
 --   no_step_refusal   the refusal of a list that does not go with its schedule; the class is field 2
@@ -22,8 +22,8 @@ use Rattle.text.specs.declared.pair.NoStep.{NoStep}
 abbrev pub refusal : Code → Option ℕ → Option ℕ → Refusal
 refusal which row field = record { code = which; row = row; field = field }
 
-abbrev pub numbers_of : Refusal → List ℕ
-numbers_of r = number_of r.code ∷ unwrap_or r.row 0 ∷ unwrap_or r.field 0 ∷ []
+abbrev pub printed_numbers : Refusal → List ℕ
+printed_numbers r = number_of r.code ∷ unwrap_or r.row 0 ∷ unwrap_or r.field 0 ∷ []
 
 abbrev pub row_refusal : ℕ → RowFault → Refusal
 row_refusal row (Field f) = refusal (field_fault_code f.fault) (Some row) (Some f.number)

@@ -1,6 +1,6 @@
 // What is refused in a file. A file's fault holds whole the fault of the row, with the number of the row.
 ghost use Rattle.std.specs.Prelude.{◌≡◌, Some, None};
-ghost use Rattle.text.specs.Refusals.{refusal, numbers_of, refusal_of, list_refusal};
+ghost use Rattle.text.specs.Refusals.{refusal, printed_numbers, refusal_of, list_refusal};
 ghost use Rattle.text.specs.declared.fault.FileFault.TheVariants.{Row};
 ghost use Rattle.text.specs.declared.fault.ListFault.TheVariants.{File};
 
@@ -21,6 +21,7 @@ pub enum ListFault {
     Room,
 }
 
+// Written out, as are those below, so that contracts know which fault `?` makes.
 impl From<Numbered<RowFault>> for FileFault {
     ghost from_gives = { λ f r. r ≡ Row f };
 
@@ -79,7 +80,7 @@ impl Refusal {
 
     // The number of the refusal, its row and its field, as they are printed: a part that does not apply is 0.
     pub fn numbers(&self) -> [u32; 3]
-        ensures { result ≡ numbers_of self.now }
+        ensures { result ≡ printed_numbers self.now }
     {
         [
             self.code.number(),

@@ -140,6 +140,7 @@ pub fn write_list(records: &[Reply<u32>], out: &mut [u8]) -> Result<usize, ListF
     if size > out.len() {
         return Err(ListFault::Room);
     }
+    // Written by place: nothing is known of what a loop over `chunks_exact_mut` beside another iterator wrote.
     for (i, reply) in records.iter().enumerate() {
         let start = width * i;
         write_reply(*reply, &mut out[start..start + width]);

@@ -1,6 +1,6 @@
 use Rattle.std.proofs.Common.{◌≡◌, ◌<◌, length, arith, ap, ◌∙◌, subst}
 use Rattle.bench.specs.Benches.{earliest}
-use Rattle.bench.specs.Earliest.{Best, free_length, best_stays, best_moves, found_earliest}
+use Rattle.bench.specs.Earliest.{Best, free_count, best_stays, best_moves, found_best}
 use Rattle.bench.proofs.Servers.earliest.Goals as goal
 use Rattle.bench.proofs.Servers.earliest.Goals.{then-tick-free, else-tick-free}
 
@@ -17,11 +17,11 @@ pub returns : goal.returns
 returns c =
     let s = c.args.self.now in
     let free = c.free-free.result.now in
-    let long : length free ≡ s.number.count = ap length c.free-free.ensures ∙ free_length s (omega arith) in
+    let long : length free ≡ s.number.count = ap length c.free-free.ensures ∙ free_count s (omega arith) in
     let some : 0 < length free = omega (arith, s.number.some) in
     let end : c.loop-server.server ≡ length free = omega arith in
     let best : Best free (length free) c.loop-server.first = subst (λ n. Best free n c.loop-server.first) end c.loop-server.invariant in
     record {
-      value = found_earliest free c.loop-server.first some best ∙ ap earliest c.free-free.ensures;
+      value = found_best free c.loop-server.first some best ∙ ap earliest c.free-free.ensures;
       known = omega (arith, (best.first some).known);
     }
