@@ -3,7 +3,7 @@
 --   Fits          each row is in its turn one that a page takes: class at most 7, and the order and range
 --   row_of        the row of a line's numbers
 --   line_read     the row of a line, or the line's fault; its number, order and range are judged last
---   row_after     the same, after rows
+--   row_after     the same, of a line that comes after rows; `page_step` adds it to them
 --   foot_read     whether a line is a given foot, or its fault; the "=" is its field 1
 --   page_count    how many rows a page has besides its foot; the size is judged before any row
 --   page_answer   the number of rows of a page, or its first fault

@@ -3,6 +3,7 @@
 --   list_shown    the rows of replies, one after another
 --   reply_of      the reply of a row's numbers
 --   reply_read    the reply of a row, or the row's fault; its order is judged last
+--   reply_after   the reply of a row that comes after replies; `list_step` adds it to them
 --   list_answer   the number of replies in a file, or its first fault
 --   list_read     the replies of a file, up to the first fault
 --   ListExact     what makes an answer right: the file is the rows of a lawful list, which is what was read; or its size

@@ -30,8 +30,11 @@ impl NoStep {
 pub fn pair<B: Copy>(records: &[Reply<B>], steps: &Steps) -> Result<(), NoStep>
     ensures { result ≡ pair_answer (ladders_of steps.now) (take 50000 records.now) }
 {
-    let lacks_step = |reply: &Reply<B>| !steps.has_step(reply.class);
-    match records.iter().take(MOST_REPLIES).position(lacks_step) {
+    let first = records
+        .iter()
+        .take(MOST_REPLIES)
+        .position(|reply| !steps.has_step(reply.class));
+    match first {
         Some(i) => Err(NoStep { row: i as u32 + 1 }),
         None => Ok(()),
     }

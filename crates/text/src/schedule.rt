@@ -1,8 +1,8 @@
 // Schedule files: a step of a pace to a row.
 ghost use Rattle.std.specs.Prelude.{◌≡◌, ℕ, List, Err};
+ghost use Rattle.std.proofs.Common.{lit≤};
 ghost use Rattle.text.specs.declared.fault.FileFault.TheVariants.{Size};
 ghost use Rattle.pace.specs.Steps.{ladders_of};
-ghost use Rattle.std.proofs.Common.{rules};
 ghost use Rattle.text.specs.Schedules.{schedule_step, schedule_answer, schedule_read, ScheduleExact};
 
 use super::fault::FileFault;
@@ -30,7 +30,7 @@ impl RowTaker for Steps {
         Ok(())
     }
 
-    ghost takes_room = { λ _ _ _ _. Prim.search rules };
+    ghost takes_room = { λ _ _ _ _. lit≤ tt };
 }
 
 // Reads a schedule in place of the steps, and answers how many rows it has. Refused for its size, it leaves the steps
