@@ -43,11 +43,6 @@ module _ {B : Type 0} where
     pub clock : t.clock ≡ v.standing.clock
     pub misses : t.misses ≤ all v.standing
 
-  pub driven_first : (m : Rules) (v : View B) (t : Tally) (buf : List ℕ) → 36 * t.rows + 36 ≤ length buf
-      → t.clock ≡ v.standing.clock → t.misses ≤ all v.standing → Driven m v v t t buf buf
-  driven_first m v t buf room clock misses =
-      record { row_list = []; releases = refl; tally = refl; bytes = refl; room = room; clock = clock; misses = misses }
-
   module _ (m : Rules) (v₀ v w : View B) (t₀ t : Tally) (buf₀ buf : List ℕ) (x : Release B)
       (d : Driven m v₀ v t₀ t buf₀ buf) (out : Ok x ≡ release m v) (is : w ≡ next m v) (inside : x.reply.«class» < length v.standing.misses) where
     moved : Moves v w x

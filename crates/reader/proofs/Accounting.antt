@@ -13,14 +13,6 @@ pub record Accounted (start : Tally) (rows : List PageRow) (i : ℕ) (t : Tally)
   pub fits : Fits t (drop i rows)
   pub count : t.rows ≡ start.rows + i
 
-pub accounted_none : (start t : Tally) (rows : List PageRow) → t ≡ start → Fits start rows → Accounted start rows 0 t
-accounted_none start t rows e fits =
-    record {
-      whole = ap (λ x. counted x rows) e;
-      fits = subst (λ x. Fits x rows) (sym e) fits;
-      count = ap (λ (x : Tally). x.rows) e ∙ omega arith;
-    }
-
 module _ (start : Tally) (rows : List PageRow) (i : ℕ) (t : Tally) (a : Accounted start rows i t) (d : PageRow) (h : i < length rows) where
   next_fits : Fits t (get_or rows i d ∷ drop (i + 1) rows)
   next_fits = subst (Fits t) (drop_more rows i d h) a.fits
