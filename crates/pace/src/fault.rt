@@ -28,7 +28,7 @@ impl From<OutOfRange> for QuantumFault {
     ghost from_gives = { λ _ r. r ≡ quantum.Range };
 
     fn from(_fault: OutOfRange) -> QuantumFault {
-        QuantumFault::Range
+        Self::Range
     }
 }
 
