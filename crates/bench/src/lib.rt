@@ -37,8 +37,8 @@ impl<B> Job<B> {
     }
 }
 
-// How many servers there are, and the tick at which each of them is free: four ticks by value, of which the first
-// `number` count.
+// How many servers there are, and the tick at which each of them is free: by a rule of the project four ticks by value,
+// of which the first `number` count.
 #[derive(Clone, Copy)]
 struct Servers {
     number: ServerCount,
@@ -96,7 +96,8 @@ struct Shift<B> {
     reply: Reply<B>,
 }
 
-// The jobs, how many were taken, the asked tick of the last one taken, and the servers.
+// The jobs, how many were taken, the asked tick of the last one taken, and the servers. A trace keeps the same of its
+// records: a cursor for both would hold two numbers and no code.
 #[derive(Drop)]
 pub struct Bench<J> {
     jobs: J,

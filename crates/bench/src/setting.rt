@@ -17,7 +17,7 @@ pub struct ServerCount {
 }
 
 impl ServerCount {
-    // So many servers.
+    // So many servers. It is no `TryFrom`, so that a literal can be handed to it.
     pub fn new(count: usize) -> Result<ServerCount, OutOfRange>
         ensures { elim result [ Ok s ↦ Ok s.count | Err e ↦ Err e ] ≡ checked 1 4 count }
     {

@@ -31,7 +31,7 @@ pub enum JobFault {
     Page(PageFault),
 }
 
-// Written out, as are those below, so that contracts know which fault `?` makes.
+// Written out, as is the one below, so that contracts know which fault `?` makes.
 impl From<NoStep> for JobFault {
     ghost from_gives = { λ f r. r ≡ Pair f };
 
@@ -90,7 +90,7 @@ impl JobFault {
 }
 
 // Reads the schedule into the steps and then the list into the records, and pairs them; answers how many replies
-// the list has.
+// the list has. The buffers are the host's, and are lent on as they came.
 fn prepare(
     schedule: &[u8],
     list: &[u8],

@@ -38,8 +38,8 @@ module _ (rows : List Row) (opening clock : ℕ) (table : length rows ≡ 8) (wi
 pub all_misses_few : (l : Ledger) → l.all_misses ≤ 232
 all_misses_few l = omega (arith, l.summed, all_few l.rows l.opening l.clock l.table l.within l.charged)
 
-pub own_part : (l : Ledger) (c : ℕ) → get_or (misses_in l.rows) c 0 ≤ l.all_misses
-own_part l c = omega (arith, l.summed, part_of_sum (misses_in l.rows) c)
+pub own_part : (l : Ledger) (c : ℕ) → misses_at l.rows c ≤ l.all_misses
+own_part l c = omega (arith, l.summed, misses_at_is l.rows c, part_of_sum (misses_in l.rows) c)
 
 -- a row charged one release after some misses
 abbrev pub charged_row : List Row → ℕ → Settled → Row

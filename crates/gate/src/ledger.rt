@@ -5,8 +5,9 @@ ghost use Rattle.gate.specs.Rows.{misses_at, misses_in, releases_in};
 use super::opening::Opening;
 use super::row::Row;
 use promise::release::Settled;
+use source::class::Class;
 
-// All misses are kept beside the table, so that no reply has to add them up again.
+// All misses are kept beside the table, so that no reply has to add them up again. The table is a plain one of rows.
 #[derive(Clone, Copy)]
 pub struct Ledger {
     pub(crate) opening: u32,
@@ -39,7 +40,9 @@ impl Ledger {
         }
     }
 
-    // Charges a class the misses of a reply, counts its release, and moves the clock to its release tick.
+    // Charges a class the misses of a reply, counts its release, and moves the clock to its release tick: the table is
+    // copied out, one row of it is changed, and the ledger is written whole. The class is a reply's own, which the law of
+    // its source bounds.
     pub(crate) fn charge(&mut self, class: u8, settled: Settled)
         requires known { «class» ≤ 7 }
         requires after { self.old.clock < settled.tick }
@@ -59,11 +62,10 @@ impl Ledger {
     }
 
     // The misses of a class.
-    pub(crate) fn misses(&self, class: u8) -> u32
-        requires { «class» ≤ 7 }
-        ensures { result ≡ slice_index (misses_in self.now.rows) «class» }
+    pub(crate) fn misses(&self, class: Class) -> u32
+        ensures { result ≡ slice_index (misses_in self.now.rows) class.number }
     {
-        self.rows[class as usize].misses
+        self.rows[class.index()].misses
     }
 
     // The releases of all classes.

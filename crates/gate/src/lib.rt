@@ -65,7 +65,8 @@ impl<S: Source, P: Pace, R: Penalty> Gate<S, P, R> {
         asked.max(self.ledger.clock)
     }
 
-    // The release tick of a reply and its misses, or nothing where a prediction passes the horizon.
+    // The release tick of a reply and its misses, or nothing where a prediction passes the horizon. Class and asked tick
+    // are a reply's own, which the law of its source bounds.
     fn settle(&self, reply: Reply<S::Body>) -> Option<Settled>
         requires known { reply.«class» ≤ 7 }
         requires within { reply.asked ≤ 1000000000 }
@@ -74,7 +75,7 @@ impl<S: Source, P: Pace, R: Penalty> Gate<S, P, R> {
         let pending = Pending {
             class: reply.class,
             ready: reply.ready,
-            own: self.ledger.misses(reply.class),
+            own: self.ledger.rows[reply.class as usize].misses,
             all: self.ledger.all_misses,
             base: self.base(reply.asked),
         };
@@ -118,8 +119,7 @@ impl<S: Source, P: Pace, R: Penalty> Gate<S, P, R> {
     pub fn misses(&self, class: u8) -> Result<u32, UnknownClass>
         ensures call { GateCall S.Source P.Pace R.Penalty self.now (event.Misses «class» result) self.now }
     {
-        let class = Class::try_from(class)?;
-        Ok(self.ledger.misses(class.number()))
+        Ok(self.ledger.misses(Class::try_from(class)?))
     }
 
     // The last release tick, or else the opening.

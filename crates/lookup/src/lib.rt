@@ -20,7 +20,8 @@ impl Refused for NoRow {
     }
 }
 
-// Whether a row was released from t1 to t2.
+// Whether a row was released from t1 to t2, which are handed on as they came: a struct of both would be made in each
+// public call.
 fn within(row: PageRow, t1: u32, t2: u32) -> bool
     ensures { result ≡ within t1 t2 row }
 {

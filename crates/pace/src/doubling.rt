@@ -13,7 +13,7 @@ use super::quantum::Quantum;
 use super::{LARGEST_QUANTUM, Pace};
 use source::class::Class;
 
-// The quantum of each class.
+// The quantum of each class, in a plain table.
 #[derive(Clone, Copy)]
 pub struct Doubling {
     quanta: [Quantum; 8],

@@ -5,7 +5,8 @@ ghost use Rattle.std.specs.Prelude.{◌≡◌, ℕ, ◌*◌, ◌^◌, ◌<◌, �
 pub(crate) const MOST_STEPS: u32 = 16;
 
 // The first `count` waits are the steps: the first is a quantum, each one at least the quantum doubled as often as
-// its place says, and none passes the horizon. An array and a count: there is no heap, and steps are copied.
+// its place says, and none passes the horizon. An array and a count, since steps are copied, and an
+// `ArrayVec` is not.
 #[derive(Clone, Copy)]
 pub struct ClassSteps {
     pub(crate) count: u32,

@@ -12,7 +12,7 @@ use super::{LARGEST_QUANTUM, Pace};
 use source::class::Class;
 use source::reply::HORIZON;
 
-// The steps of each class.
+// The steps of each class, in a plain table.
 #[derive(Clone, Copy)]
 pub struct Steps {
     classes: [ClassSteps; 8],
@@ -55,7 +55,7 @@ impl ClassSteps {
         }
     }
 
-    // Whether a wait can be the next step, or why it cannot.
+    // Whether a wait can be the next step, or why it cannot. Epoch and wait are handed on as they came.
     fn judge(&self, epoch: u32, wait: u32) -> Result<(), StepFault>
         ensures { result ≡ step_answer (ladder_of self.now) epoch wait }
     {
@@ -130,7 +130,8 @@ impl Steps {
         self.of_class(class).is_ok_and(|steps| steps.count > 0)
     }
 
-    // The steps of a class, as the doubling pace has its own of a quantum.
+    // The steps of a class. The doubling pace has such a method of its own: of one table for both, each caller would owe a
+    // proof of what this says once.
     fn of_class(&self, class: u8) -> Result<&ClassSteps, UnknownClass>
         ensures { elim result [ Ok s ↦ («class» ≤ 7) × (ladder_of s.now ≡ ladder (ladders_of self.now) «class») | Err _ ↦ 7 < «class» ] }
     {

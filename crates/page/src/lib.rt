@@ -86,7 +86,7 @@ impl ClosedPage {
     }
 }
 
-// The bytes of a row of a page.
+// The bytes of a row of a page, which was judged before. The foot's are another layout's, so each has its writer.
 fn write_row(line: &mut [u8], number: u32, row: PageRow)
     requires room { length line.old ≡ 36 }
     requires number { number ≤ 50000 }

@@ -80,7 +80,7 @@ fn read_foot(line: &[u8], foot: Foot) -> Result<(), RowFault>
     }
 }
 
-// The lines of a page, read into the front of a buffer, and the account of their rows.
+// The lines of a page, read into the front of a buffer, and the account of their rows, which counts them.
 #[derive(Drop)]
 struct PageLines<'a> {
     account: Account,
@@ -139,7 +139,8 @@ fn read_lines(
     read_rows(&bytes[..LINE * rows], rows, LINE, &mut page)
 }
 
-// The account of rows that a page took. The foot of a page that is read comes from a loop over its rows.
+// The account of rows that a page took. By a rule of the project the foot of a page that is read comes from a loop over
+// its rows.
 fn account_of(rows: &[PageRow], opening: Opening) -> Account
     requires fits { Fits (begun opening.value) rows.now }
     requires few { length rows.now ≤ 50000 }

@@ -14,10 +14,10 @@ const MOST_ROWS: usize = 1_800;
 // The bytes of a file that can matter: those of the longest one that is held, and one more to tell a longer one.
 const SCHEDULE_BYTES: u64 = 128 * 17 + 1;
 
-const LIST_BYTES: u64 = 1_800 * 35 + 1;
+const LIST_BYTES: u64 = MOST_ROWS as u64 * 35 + 1;
 
 // The bytes of the longest page.
-const PAGE_BYTES: usize = 1_801 * 36;
+const PAGE_BYTES: usize = (MOST_ROWS + 1) * 36;
 
 // Reads the front of a file, at most so many bytes; a missing file is empty.
 fn read_front(rt: &HostRuntime, path: &str, most: u64) -> io::Result<Vec<u8>> {

@@ -23,7 +23,7 @@ pub enum RowFault {
     Step(StepFault),
 }
 
-// Written out, as are those below, so that contracts know which fault `?` makes.
+// Written out, as is the one below, so that contracts know which fault `?` makes.
 impl From<Numbered<FieldFault>> for RowFault {
     ghost from_gives = { λ f r. r ≡ Field f };
 

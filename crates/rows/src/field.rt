@@ -48,6 +48,7 @@ pub(crate) fn write_field(out: &mut [u8], value: u64)
     let n = out.len();
     out[n - 1] = b'0' + (value % 10) as u8;
     let mut left = value / 10;
+    // Written by place: nothing is known of what a loop over `iter_mut().rev()` wrote.
     for i in (0..n - 1).rev() {
         out[i] = if left > 0 {
             b'0' + (left % 10) as u8

@@ -8,7 +8,7 @@ use super::fault::{Numbered, RowFault, at_number};
 use super::field::{FieldFault, read_field, write_field};
 use super::layout::Layout;
 
-// The values do not fit the layout, or the room is not that of a row.
+// The values do not fit the layout, or the room is not that of a row, which is all that a writing can refuse.
 #[derive(Clone, Copy, PartialEq, Eq, Debug)]
 pub struct Misfit;
 
@@ -32,6 +32,7 @@ impl<const N: usize> Layout<N> {
     {
         let mut values = [0; N];
         let mut rest = row;
+        // Kept by place, since a field that is refused ends the row.
         for (i, column) in self.columns.iter().enumerate() {
             let number = self.first + i as u32;
             (values[i], rest) = at_number(number, read_column(*column, rest))?;

@@ -25,14 +25,6 @@ impl TryFrom<u8> for Class {
 }
 
 impl Class {
-    // The number of the class.
-    pub fn number(self) -> u8
-        ensures value { result ≡ self.number }
-        ensures known { result ≤ 7 }
-    {
-        self.number
-    }
-
     // The place of the class in a table.
     pub fn index(self) -> usize
         ensures value { result ≡ self.number }

@@ -22,7 +22,7 @@ pub struct Reply<B> {
 }
 
 impl<B> Reply<B> {
-    // Whether the reply is in range and may follow one asked at `last`.
+    // Whether the reply is in range and may follow one asked at `last`. A job is judged alike, but by its work.
     pub fn follows(&self, last: u32) -> bool
         ensures { result ≡ follows last self.now }
     {

@@ -12,8 +12,9 @@ use super::reply::{End, Reply};
 // A trace reads no further than this many records.
 pub const MOST_RECORDS: usize = 50_000;
 
-// The records, how many were taken, and the asked tick of the last one taken. A bench has the same of its jobs, and
-// differs in all that it makes of them; the buffer is a type parameter, since a host's need be no slice.
+// The records, how many were taken, and the asked tick of the last one taken. A bench keeps
+// the same of its jobs: a cursor for both would hold two numbers and no code. The buffer is a type parameter, since a
+// host's need be no slice.
 #[derive(Drop)]
 pub struct Trace<R> {
     records: R,

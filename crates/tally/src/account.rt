@@ -1,7 +1,8 @@
 // What a page has taken, in plain numbers that keep their bounds.
 ghost use Rattle.std.specs.Prelude.{◌≡◌, ◌≤◌, length};
 
-// The opening, the rows so far, the last release or else the opening, the misses of all rows, the classes that occur.
+// The opening, the rows so far, the last release or else the opening, the misses of all rows, the classes that occur
+// as a plain table of marks.
 #[derive(Clone, Copy)]
 pub struct Tally {
     pub opening: u32,

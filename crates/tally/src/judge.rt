@@ -51,27 +51,27 @@ impl Account {
         self.tally.rows < MOST_ROWS && LINE * self.tally.rows as usize + 2 * LINE <= room
     }
 
-    // Whether a page in a buffer of so many bytes takes a row, or why not.
-    fn judge(&self, row: PageRow, room: usize) -> Result<(), PageFault>
-        ensures { result ≡ row_answer self.now.tally row room }
+    // Whether a page in a buffer of so many bytes takes a row, with its class, or why not.
+    fn judge(&self, row: PageRow, room: usize) -> Result<Class, PageFault>
+        ensures { MatchResult result (λ c. (row_answer self.now.tally row room ≡ Ok tt) × (c.number ≡ row.«class»)) (λ f. row_answer self.now.tally row room ≡ Err f) }
     {
-        Class::try_from(row.class).map_err(|_| PageFault::Class)?;
+        let class = Class::try_from(row.class).map_err(|_| PageFault::Class)?;
         if !self.admits(row) {
             return Err(PageFault::Order);
         }
         if !self.has_room(room) {
             return Err(PageFault::Room);
         }
-        Ok(())
+        Ok(class)
     }
 
     // The account with one row more, in a buffer of so many bytes, or why the page does not take the row.
     pub fn with(&self, row: PageRow, room: usize) -> Result<Account, PageFault>
         ensures { MatchResult result (λ a. (row_answer self.now.tally row room ≡ Ok tt) × (a.tally ≡ taken self.now.tally row)) (λ f. row_answer self.now.tally row room ≡ Err f) }
     {
-        self.judge(row, room)?;
+        let class = self.judge(row, room)?;
         let mut occurs = self.tally.occurs;
-        occurs[row.class as usize] = true;
+        occurs[class.index()] = true;
         Ok(Account {
             tally: Tally {
                 rows: self.tally.rows + 1,

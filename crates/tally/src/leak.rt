@@ -25,7 +25,8 @@ pub(crate) fn row_bits(rows: u32) -> u32
     u32::BITS - rows.leading_zeros()
 }
 
-// What a class adds to the exponent: its most misses in the span if it occurs.
+// What a class adds to the exponent: its most misses in the span if it occurs. The class is a place of a table, and the
+// span lies within the horizon, as the account's facts say.
 fn share<P: Pace>(quanta: &P, class: u8, occurs: bool, span: u32) -> u32
     requires known { «class» ≤ 7 }
     requires within { span ≤ 1000000000 }
@@ -47,6 +48,7 @@ pub(crate) fn exponent<P: Pace>(quanta: &P, occurs: &[bool; 8], span: u32) -> u3
     ensures value { result ≡ exponent (P.Pace.quanta quanta.now) span (occurs_in occurs.now) }
     ensures few { result ≤ 233 }
 {
+    // Added in a `for`: of a sum whose items are answers of calls no bound is found.
     let mut e = 1;
     for (class, mark) in occurs.iter().enumerate() {
         e += share(quanta, class as u8, *mark, span);

@@ -21,7 +21,7 @@ pub enum ListFault {
     Room,
 }
 
-// Written out, as are those below, so that contracts know which fault `?` makes.
+// Written out, as is the one below, so that contracts know which fault `?` makes.
 impl From<Numbered<RowFault>> for FileFault {
     ghost from_gives = { λ f r. r ≡ Row f };
 

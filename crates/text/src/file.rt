@@ -16,7 +16,7 @@ pub trait RowTaker {
     // What one row more makes of it, or why that row is refused.
     ghost step: { State → List ℕ → Result State RowFault };
 
-    // How many more rows there is room for.
+    // How many more rows there is room for, at least.
     ghost room: { State → ℕ };
 
     // Takes a row; refused, it leaves what stood there.

@@ -34,6 +34,7 @@ fn read_reply(row: &[u8], last: u32) -> Result<Reply<u32>, RowFault>
 }
 
 // The replies of a list, read into the front of a buffer: how many there are so far, and when the last was asked.
+// The buffer is held whole, since a proof does not follow a mutable slice that is cut as it is filled.
 #[derive(Drop)]
 struct ListRows<'a> {
     out: &'a mut [Reply<u32>],
