@@ -41,8 +41,8 @@ impl Ledger {
     }
 
     // Charges a class the misses of a reply, counts its release, and moves the clock to its release tick: the table is
-    // copied out, one row of it is changed, and the ledger is written whole. The class is a reply's own, which the law of
-    // its source bounds.
+    // copied out, one row of it is changed, and the ledger is written whole. The class is a reply's own, which the law
+    // of its source bounds.
     pub(crate) fn charge(&mut self, class: u8, settled: Settled)
         requires known { «class» ≤ 7 }
         requires after { self.old.clock < settled.tick }

@@ -65,8 +65,8 @@ impl<S: Source, P: Pace, R: Penalty> Gate<S, P, R> {
         asked.max(self.ledger.clock)
     }
 
-    // The release tick of a reply and its misses, or nothing where a prediction passes the horizon. Class and asked tick
-    // are a reply's own, which the law of its source bounds.
+    // The release tick of a reply and its misses, or nothing where a prediction passes the horizon. Class and asked
+    // tick are a reply's own, which the law of its source bounds.
     fn settle(&self, reply: Reply<S::Body>) -> Option<Settled>
         requires known { reply.«class» ≤ 7 }
         requires within { reply.asked ≤ 1000000000 }

@@ -43,8 +43,8 @@ impl Doubling {
         Ok(())
     }
 
-    // The quantum of a class. Steps have such a method of their own: of one table for both, each caller would owe a proof
-    // of what this says once.
+    // The quantum of a class. Steps have such a method of their own: of one table for both, each caller would owe a
+    // proof of what this says once.
     fn of_class(&self, class: u8) -> Result<&Quantum, UnknownClass>
         ensures { elim result [ Ok q ↦ («class» ≤ 7) × (q.now.value ≡ quantum_at (quanta_of self.now) «class») | Err _ ↦ 7 < «class» ] }
     {

@@ -130,8 +130,8 @@ impl Steps {
         self.of_class(class).is_ok_and(|steps| steps.count > 0)
     }
 
-    // The steps of a class. The doubling pace has such a method of its own: of one table for both, each caller would owe a
-    // proof of what this says once.
+    // The steps of a class. The doubling pace has such a method of its own: of one table for both, each caller would
+    // owe a proof of what this says once.
     fn of_class(&self, class: u8) -> Result<&ClassSteps, UnknownClass>
         ensures { elim result [ Ok s ↦ («class» ≤ 7) × (ladder_of s.now ≡ ladder (ladders_of self.now) «class») | Err _ ↦ 7 < «class» ] }
     {
