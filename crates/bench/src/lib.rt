@@ -26,7 +26,7 @@ pub struct Job<B> {
 }
 
 impl<B> Job<B> {
-    // Whether the job is in range and may follow one asked at `last`.
+    // Whether the job is in range and may follow one asked at `last`. A reply is judged alike, but by its ready tick.
     pub fn follows(&self, last: u32) -> bool
         ensures { result ≡ job_follows last self.now }
     {
@@ -133,6 +133,7 @@ impl<B: Copy, J: Buffer<Item = Job<B>>> Bench<J> {
         if start > HORIZON - job.work {
             return Err(End::Horizon);
         }
+        // Written out: a job is no reply, and is worked first.
         let reply = Reply {
             asked: job.asked,
             class: job.class,

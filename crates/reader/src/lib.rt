@@ -122,7 +122,8 @@ impl RowTaker for PageLines<'_> {
     ghost takes_room = { fill_room row_after };
 }
 
-// Reads so many rows into the front of `out`, up to the first that is refused.
+// Reads so many rows into the front of `out`, up to the first that is refused. How many there are is a length, which
+// has no type of its own.
 fn read_lines(
     bytes: &[u8],
     rows: usize,

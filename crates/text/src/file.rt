@@ -41,7 +41,7 @@ pub fn count_rows(size: usize, width: usize, most: usize) -> Result<usize, FileF
 }
 
 // Reads so many rows of a width one after another, up to the first that is refused. The readers of files call it, after
-// they judged the size and the room.
+// they judged the size and the room; how many rows there are is a length, which has no type of its own.
 pub fn read_rows<T: RowTaker>(
     bytes: &[u8],
     rows: usize,

@@ -109,7 +109,7 @@ fn check_list(records: &[Reply<u32>]) -> Result<(), FileFault>
     Ok(())
 }
 
-// Writes the row of a reply that is in range.
+// Writes the row of a reply that is in range. Its numbers are wanted here alone.
 fn write_reply(reply: Reply<u32>, row: &mut [u8])
     requires room { length row.old ≡ 35 }
     requires asked { reply.asked ≤ 1000000000 }
