@@ -38,27 +38,23 @@ module _ (free : List ℕ) where
     pub below : s ≤ n
     pub first : 0 < n → FirstUpTo free n s
 
+  -- a search that has only begun stands at the first server
+  best_begun : (n s : ℕ) → Best n s → n ≡ 0 → FirstUpTo free (n + 1) s
+  best_begun n s b e = let none : s ≡ 0 = omega (arith, b.below) in rw (e, none) first_one
+
   module _ (n s : ℕ) (b : Best n s) where
     pub best_stays : get_or free s 0 ≤ slice_index free n → Best (n + 1) s
     best_stays h =
         record {
           below = omega (arith, b.below);
-          first = λ _. record {
-            known = omega (arith, b.below);
-            least = λ k l. elim (cases_lt k n) [ inl m ↦ (b.first (omega arith)).least k m | inr m ↦ let z : k ≡ n = omega arith in rw z h ];
-            lowest = λ k l. (b.first (omega (arith, b.below))).lowest k l;
-          };
+          first = λ _. elim (cases_lt 0 n) [ inl some ↦ first_stays n s (b.first some) h | inr none ↦ best_begun n s b (omega arith) ];
         }
 
     pub best_moves : get_or free n 0 < slice_index free s → Best (n + 1) n
     best_moves h =
         record {
           below = omega arith;
-          first = λ _. record {
-            known = omega arith;
-            least = λ k l. elim (cases_lt k n) [ inl m ↦ omega (arith, (b.first (omega arith)).least k m) | inr m ↦ let z : k ≡ n = omega arith in rw z (omega arith) ];
-            lowest = λ k l. omega (arith, (b.first (omega arith)).least k l);
-          };
+          first = λ _. elim (cases_lt 0 n) [ inl some ↦ first_moves n s (b.first some) h | inr none ↦ best_begun n n (record { below = omega arith; first = λ z. absurd (omega arith) }) (omega arith) ];
         }
 
   pub first_unique : (n a b : ℕ) → FirstUpTo free n a → FirstUpTo free n b → a ≡ b
