@@ -2,6 +2,8 @@
 // none.
 #![tactic(auto)]
 
+ghost use Rattle.std.specs.Prelude.{◌≤◌, IfOk, vec_len};
+
 use driver::job::job;
 use source::reply::Reply;
 use std::io::{Read, Write};
@@ -12,23 +14,34 @@ use std::{fs, io};
 const MOST_ROWS: usize = 1_800;
 
 // The bytes of a file that can matter: those of the longest one that is held, and one more to tell a longer one.
-const SCHEDULE_BYTES: u64 = 128 * 17 + 1;
+const SCHEDULE_BYTES: usize = 128 * 17 + 1;
 
-const LIST_BYTES: u64 = MOST_ROWS as u64 * 35 + 1;
+const LIST_BYTES: usize = MOST_ROWS * 35 + 1;
 
 // The bytes of the longest page.
 const PAGE_BYTES: usize = (MOST_ROWS + 1) * 36;
 
-// Reads the front of a file, at most so many bytes; a missing file is empty.
-fn read_front(rt: &HostRuntime, path: &str, most: u64) -> io::Result<Vec<u8>> {
-    let mut bytes = Vec::new(rt.alloc());
+// Reads the front of a file, at most so many bytes; a missing file is empty. It is read into a buffer of that size, as
+// a proof knows nothing of what the library's reading to the end of a file gives.
+fn read_front(rt: &HostRuntime, path: &str, most: usize) -> anyhow::Result<Vec<u8>>
+    ensures { IfOk result (λ bytes. vec_len bytes ≤ most) }
+{
+    let mut bytes = vec![in rt.alloc(); 0; most]?;
+    let mut length = 0;
     match fs::open(rt, path) {
-        Ok(file) => {
-            file.take(most).read_to_end(&mut bytes)?;
+        Ok(mut file) => {
+            while length < bytes.len() {
+                let n = file.read(&mut bytes[length..])?;
+                if n == 0 {
+                    break;
+                }
+                length += n;
+            }
         }
         Err(e) if e.kind() == io::ErrorKind::NotFound => {}
-        Err(e) => return Err(e),
+        Err(e) => return Err(e.into()),
     }
+    bytes.truncate(length);
     Ok(bytes)
 }
 
