@@ -1,6 +1,7 @@
 -- The first reply whose class has no step.
-use Rattle.std.proofs.Common.{◌≡◌, ℕ, ◌+◌, Bool, true, false, not, cond, List, [], ◌∷◌, Some, None, Ok, Err, Option, Result, refl, ap, ◌∙◌}
+use Rattle.std.proofs.Common.{◌≡◌, ℕ, ◌+◌, min, Bool, true, false, not, cond, List, [], ◌∷◌, length, take, Some, None, Ok, Err, Option, Result, refl, ap, ◌∙◌}
 use Rattle.std.specs.List.{position, position_from}
+use Rattle.std.proofs.lemmas.List.{take_min}
 use Rattle.std.proofs.lemmas.Iterator.Adapters.{position_from-zero}
 use Rattle.source.specs.declared.reply.Reply.{Reply}
 use Rattle.pace.specs.Steps.{has_step}
@@ -25,3 +26,7 @@ module _ {B : Type 0} (ladders : List (List ℕ)) where
 
   pub pair_found : (rs : List (Reply B)) → lacking_at (position lacks rs) ≡ pair_answer ladders rs
   pair_found rs = ap lacking_at (position_from-zero lacks rs) ∙ found_from 0 rs
+
+  -- the same of the replies that are looked at
+  pub front_found : (rs : List (Reply B)) (n : ℕ) → n ≡ min 50000 (length rs) → lacking_at (position lacks (take n rs)) ≡ pair_answer ladders (take 50000 rs)
+  front_found rs n e = pair_found (take n rs) ∙ ap (pair_answer ladders) (ap (λ k. take k rs) e ∙ take_min 50000 rs)

@@ -30,9 +30,9 @@ impl NoStep {
 pub fn pair<B: Copy>(records: &[Reply<B>], steps: &Steps) -> Result<(), NoStep>
     ensures { result ≡ pair_answer (ladders_of steps.now) (take 50000 records.now) }
 {
-    let first = records
+    let count = records.len().min(MOST_REPLIES);
+    let first = records[..count]
         .iter()
-        .take(MOST_REPLIES)
         .position(|reply| !steps.has_step(reply.class));
     match first {
         Some(i) => Err(NoStep { row: i as u32 + 1 }),
