@@ -41,6 +41,12 @@ list_only bytes room m e =
     let same : w.items ≡ list_read bytes room = sym (w.left ∙ put_all_is [] w.items) in
     subst (λ x. (bytes ≡ list_shown x) × ListFits [] x × (length x ≡ m)) same (w.shows, w.fits, w.long)
 
+-- a list that was read has as many replies as rows, at most 50,000 and at most the room
+pub list_held : (bytes : List ℕ) (room m : ℕ) → list_answer bytes room ≡ Ok m → (length (list_read bytes room) ≡ m) × (m ≤ 50000) × (m ≤ room)
+list_held bytes room m e =
+    let w = whole_only list_step 35 list_kind (omega arith) [] (min 50000 room) [] bytes m e in
+    ((list_only bytes room m e).2, omega (arith, w.few), omega (arith, w.few))
+
 -- a row that is refused comes after the rows of a lawful list
 row_exact : (bytes : List ℕ) (room : ℕ) (f : Numbered RowFault) → list_answer bytes room ≡ Err (Row f) → FaultAfter (list_read bytes room) bytes f
 row_exact bytes room f e =
