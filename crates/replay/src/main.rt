@@ -21,8 +21,8 @@ const LIST_BYTES: usize = MOST_ROWS * 35 + 1;
 // The bytes of the longest page.
 const PAGE_BYTES: usize = (MOST_ROWS + 1) * 36;
 
-// Reads the front of a file, at most so many bytes; a missing file is empty. It is read into a buffer of that size, as
-// a proof knows nothing of what the library's reading to the end of a file gives.
+// Reads the front of a file, at most so many bytes; a missing file is empty. A buffer of that size bounds what is read:
+// of what the library's reading to the end of a file gives, a proof knows nothing.
 fn read_front(rt: &HostRuntime, path: &str, most: usize) -> anyhow::Result<Vec<u8>>
     ensures { IfOk result (λ bytes. vec_len bytes ≤ most) }
 {
